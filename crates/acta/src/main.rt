@@ -1,9 +1,8 @@
-//! The program `acta_tool COMMAND [OPTIONS] MODEL`. Its words say what is to be done and with which model, a file or
-//! one that the program holds; the standard input holds the lines of a history. The model and the whole input are read
-//! before anything is written, and the answer is written in one go, so that a run whose input can't be read, or whose
-//! memory runs out, prints nothing. Only `shell` answers each line before it reads the next. The program ends with status 0
-//! where all was answered, 1 where the model or a line was refused, 2 where the words are wrong, and 3 where a read, a write
-//! or the memory failed.
+//! The program `acta_tool COMMAND [OPTIONS] MODEL`. Its words name a command and a model, a file or one that the program
+//! contains; the standard input has the lines of a history. The model and the whole input are read before anything is
+//! written, and the answer is written at once, so that a run whose input can't be read, or whose memory runs out, prints
+//! nothing. Only `shell` answers each line before it reads the next. The exit status is 0 if everything was answered, 1 if
+//! the model or a line was refused, 2 if the command line is wrong, and 3 if a read, a write or memory failed.
 #![tactic(auto)]
 
 mod progress;
@@ -60,7 +59,7 @@ fn file_bytes<R: Files + AllocGlobal>(rt: &R, path: &str) -> Result<Vec<u8>, Rea
     }
 }
 
-// The bytes of the model of this name: of a file, or the text of a standard model.
+// The bytes of the model with this name: of a file, or of a standard model's text.
 fn model_bytes<R: Files + AllocGlobal>(rt: &R, name: ModelName<'_>) -> Result<Vec<u8>, ReadFault> {
     match name {
         ModelName::Standard(standard) => {
@@ -81,7 +80,7 @@ struct Terminals {
     error: bool,
 }
 
-// Says that lines are read, if they are typed: no answer comes before their end.
+// Reports that lines are read, if a user types them: no answer comes before their end.
 fn report_reading<R: Eprint>(rt: &R, terminals: Terminals) {
     if terminals.input && terminals.error {
         let _ = eprintln!(rt; "reading lines until Ctrl-D; the answers come then");
@@ -96,7 +95,7 @@ fn reads_lines(command: Command) -> bool {
     )
 }
 
-// Names the command that shows the fault for which an input was refused, if there is one.
+// Suggests the command that shows why the input was refused, if there is one.
 fn hint_at_explain<R: Eprint>(rt: &R, command: Command) {
     let (flag, limit) = match command {
         Command::Run { .. } | Command::Trace => ("", ""),
@@ -113,7 +112,7 @@ fn hint_at_explain<R: Eprint>(rt: &R, command: Command) {
     );
 }
 
-// Says what a verdict suggests.
+// Prints the suggestion of a verdict.
 fn suggest<R: Eprint>(rt: &R, advice: Advice) {
     let _ = match advice {
         Advice::Serialize => {
@@ -129,7 +128,7 @@ fn suggest<R: Eprint>(rt: &R, advice: Advice) {
     };
 }
 
-// Judges the lines of the standard input, and says on the standard error what the verdict suggests.
+// Judges the lines of the standard input, and prints the verdict's suggestion on the standard error.
 fn judge_reported<R: Eprint + Input + Print + AllocGlobal + Threads + Sync>(
     rt: &R,
     args: &Args<'_>,
@@ -204,7 +203,7 @@ fn serve_run<R: Eprint + Files + Input + Print + AllocGlobal + Threads + Wait + 
     }
 }
 
-// Explains the lines of the standard input, which are of this kind, on the model of this name.
+// Explains the lines of the standard input, of this kind, on the model with this name.
 fn explain_by<R: Eprint + Files + Input + Print + AllocGlobal + Threads + Sync>(
     rt: &R,
     terminals: Terminals,
@@ -227,7 +226,7 @@ fn explain_by<R: Eprint + Files + Input + Print + AllocGlobal + Threads + Sync>(
     )
 }
 
-// Explains what the words ask for.
+// Runs `explain`.
 fn serve_explain<R: Eprint + Files + Input + Print + AllocGlobal + Threads + Sync>(
     rt: &R,
     terminals: Terminals,
@@ -239,7 +238,7 @@ fn serve_explain<R: Eprint + Files + Input + Print + AllocGlobal + Threads + Syn
     })
 }
 
-// Draws what the words ask for.
+// Runs `draw`.
 fn serve_draw<R: Env + Eprint + Files + Input + Print + AllocGlobal>(
     rt: &R,
     terminals: Terminals,
@@ -262,7 +261,7 @@ fn serve_draw<R: Env + Eprint + Files + Input + Print + AllocGlobal>(
     ))
 }
 
-// Finds how the programs of the standard input can end.
+// Runs `explore`.
 fn serve_explore<R: Clock + Eprint + Files + Input + Print + AllocGlobal>(
     rt: &R,
     terminals: Terminals,
@@ -284,7 +283,7 @@ fn serve_explore<R: Clock + Eprint + Files + Input + Print + AllocGlobal>(
     ))
 }
 
-// Compares two models on the standard input.
+// Runs `compare`.
 fn serve_compare<R: Clock + Eprint + Files + Input + Print + AllocGlobal>(
     rt: &R,
     terminals: Terminals,
@@ -311,7 +310,7 @@ fn serve_compare<R: Clock + Eprint + Files + Input + Print + AllocGlobal>(
     ))
 }
 
-// Finds a serial order of the kept lines of the standard input.
+// Runs `serialize`.
 fn serve_serialize<R: Eprint + Files + Input + Print + AllocGlobal>(
     rt: &R,
     terminals: Terminals,
@@ -332,7 +331,7 @@ fn serve_serialize<R: Eprint + Files + Input + Print + AllocGlobal>(
     ))
 }
 
-// Answers the lines of the standard input one by one.
+// Runs `shell`.
 fn serve_shell<R: Env + Files + Input + Print + AllocGlobal>(
     rt: &R,
     terminals: Terminals,
@@ -353,7 +352,7 @@ fn serve_shell<R: Env + Files + Input + Print + AllocGlobal>(
     ))
 }
 
-// The models that a command line names, which are two at most.
+// The models that a command line names, at most two.
 struct Named<'a> {
     model: Option<ModelName<'a>>,
     other: Option<ModelName<'a>>,
@@ -368,7 +367,7 @@ impl<'a> Named<'a> {
     }
 }
 
-// The models that the words name, which are a command line.
+// The models that these words of a command line name.
 fn models_named<'a, R: AllocGlobal>(rt: &R, words: &'a [String]) -> Result<Named<'a>, UsageFault> {
     let command = match words.get(1) {
         Some(command) => command.as_str(),
@@ -397,7 +396,7 @@ fn models_named<'a, R: AllocGlobal>(rt: &R, words: &'a [String]) -> Result<Named
     })
 }
 
-// Tells the path of a model, if it has one, in a line.
+// Prints the path of a model on a line, if it has one.
 fn report_path<R: Print>(rt: &R, model: Option<ModelName<'_>>) -> Outcome {
     let Some(name) = model else {
         return Outcome::Done;
@@ -411,7 +410,7 @@ fn report_path<R: Print>(rt: &R, model: Option<ModelName<'_>>) -> Outcome {
     }
 }
 
-// Tells the paths of the models that the words after `--models` name, a line each. The script `acta` asks for them where
+// Prints the paths of the models that the words after `--models` name, one per line. The script `acta` asks for them after
 // the program has ended with status 3.
 fn report_models<R: Print + AllocGlobal>(rt: &R, words: &[String]) -> Result<Outcome, UsageFault> {
     let Named { model, other } = models_named(rt, words)?;
@@ -421,7 +420,7 @@ fn report_models<R: Print + AllocGlobal>(rt: &R, words: &[String]) -> Result<Out
     })
 }
 
-// Tells the version.
+// Prints the version.
 fn report_version<R: Print>(rt: &R) -> Outcome {
     match println!(rt; "acta {VERSION}") {
         Ok(()) => Outcome::Done,
@@ -456,7 +455,7 @@ fn serve<R: Clock + Env + Eprint + Files + Input + Print + AllocGlobal + Threads
     })
 }
 
-// Says which standard model was perhaps meant by a word that begins with `@`.
+// Suggests the standard model that was perhaps meant by a word that begins with `@`.
 fn hint_at_standard(rt: &HostRuntime, words: &[String]) {
     let known = [
         "@atomic",
@@ -483,7 +482,7 @@ fn list_standards(rt: &HostRuntime) {
     }
 }
 
-// Writes why the words ask for nothing, or the text that they ask for. If memory ran out, nothing is written.
+// Writes why the command line was rejected, or the text for which it asked. If memory ran out, nothing is written.
 fn report_usage(rt: &HostRuntime, words: &[String], fault: &UsageFault) {
     match fault {
         UsageFault::Memory(_) => {}

@@ -1,4 +1,4 @@
-//! How far a search is, shown on a terminal.
+//! Shows the progress of a search on a terminal.
 
 use acta_explore::Watch;
 use std::time::{Clock, Duration, Instant};
@@ -6,19 +6,20 @@ use std::time::{Clock, Duration, Instant};
 // How many points are found between two looks at the clock.
 const POINTS: u64 = 256;
 
-/// A line on the standard error that says how far a search is. It comes after a second, and goes when the search ends.
+/// A line on the standard error with the progress of a search. It appears after a second, and disappears when the search
+/// ends.
 #[derive(Drop)]
 pub(crate) struct Progress<'a, R: Clock + Eprint> {
     rt: &'a R,
-    // When the line was written last, or the search began; nothing where it is not shown.
+    // When the line was last written, or the search began; `None` if no progress is shown.
     shown: Option<Instant>,
-    // Up to so many points the clock is not asked.
+    // The clock is not read before this many points are found.
     next: u64,
     is_written: bool,
 }
 
 impl<'a, R: Clock + Eprint> Progress<'a, R> {
-    /// Before a search. It is shown only on a terminal that has a clock.
+    /// The progress before a search. It is shown only on a terminal, and only if there is a clock.
     pub(crate) fn new(rt: &'a R, is_terminal: bool) -> Progress<'a, R> {
         let shown = if is_terminal {
             Instant::now(rt).ok()

@@ -14,11 +14,11 @@ begins_at model = slice_index model 0 == 64
 abbrev pub standard_text : StandardModel → Text
 standard_text name = 64 ∷ name_of_standard name
 
--- the model is this one: a standard one, or a file
+-- the word names this model: a standard one, or a file
 abbrev pub IsModel : Text → ModelName → Type 0
 IsModel text (Standard name) = text ≡ standard_text name
 IsModel text (Path path) = (begins_at text ≡ false) × (path.now ≡ text)
 
--- the model has an `@` first and is none of the standard ones
+-- the word begins with an `@` and names no standard model
 abbrev pub IsUnknown : Text → Type 0
 IsUnknown text = (begins_at text ≡ true) × ((name : StandardModel) → text ≢ standard_text name)

@@ -1,4 +1,4 @@
-//! The table of the commands, and which of them the words name.
+//! The table of the commands, and the command that the words name.
 
 use crate::fault::UsageFault;
 use crate::surface::program_name;
@@ -9,7 +9,7 @@ use std::alloc::{AllocError, Global};
 /// The version of the workbench.
 pub const VERSION: &str = "0.1.0";
 
-/// A command: its name, and what it does in a line.
+/// A command: its name, and a line about it.
 #[derive(Clone, Copy, Debug, PartialEq, Eq)]
 pub struct Listed {
     pub name: &'static str,
@@ -90,7 +90,7 @@ pub fn is_command(word: &str) -> bool {
     false
 }
 
-/// Turns `help COMMAND` into `COMMAND --help`; other words stay as they are. `Err` if memory runs out.
+/// Turns `help COMMAND` into `COMMAND --help`; leaves other words unchanged. Returns `Err` if memory runs out.
 pub fn turn_help(alloc: Global, words: &mut Vec<String>) -> Result<(), AllocError> {
     let is_help = match words.as_slice() {
         [_, help, command] => help.as_str() == "help" && is_command(command.as_str()),
@@ -128,8 +128,8 @@ fn surface<'a>(alloc: Global) -> Result<Command<'a>, AllocError> {
     Ok(surface)
 }
 
-/// What is said of words that name no command: what is wrong with them and which command was perhaps meant, the list of
-/// the commands for `--help`, or the version for `--version`; or want of memory.
+/// The fault of words that name no command: what is wrong with them and which command was perhaps meant, or the list of
+/// commands for `--help`, or the version for `--version`, or lack of memory.
 pub fn refuse_words(alloc: Global, words: &[String]) -> UsageFault {
     match surface(alloc) {
         Ok(mut surface) => {

@@ -1,21 +1,21 @@
-//! Why a command line was not taken.
+//! Why a command line was rejected.
 
 use std::alloc::AllocError;
 use thiserror::Error;
 
-/// Why the words of a command line ask for nothing.
+/// Why a command line was rejected.
 #[derive(Debug, Drop, Error)]
 pub enum UsageFault {
-    /// The words are no command with its model; the text says what is wrong, and how to call the program.
+    /// The words are not a command with its arguments; the text says what is wrong, and how to call the program.
     #[error("{0}")]
     Usage(clap::Error),
-    /// The name after the `@` is the name of no standard model.
+    /// No standard model has the name after the `@`.
     #[error("unknown model")]
     UnknownModel,
     /// A word is not UTF-8.
     #[error("a word is not UTF-8")]
     NotText,
-    /// There is no memory to read the words with, or for their model.
+    /// Memory ran out while reading the words or the model.
     #[error(transparent)]
     Memory(#[from(alloc)] AllocError),
 }

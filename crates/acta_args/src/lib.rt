@@ -1,6 +1,6 @@
-//! The command line: the table of the commands, the parts of which the command line of each is made, how the words of
-//! one are read by `clap`, the model that a word names, and the word that was perhaps meant. Each command says itself
-//! which arguments and options it has.
+//! The command line: the table of the commands, the parts from which each command's line is built, how `clap` reads its
+//! words, the model that a word names, and the word that was perhaps meant. Each command declares its own arguments and
+//! options.
 //!
 //! A call that allocates returns `Err`, or `Memory`, if memory runs out.
 #![tactic(auto)]

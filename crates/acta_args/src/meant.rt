@@ -1,4 +1,4 @@
-//! The word that was perhaps meant: one letter off a known one.
+//! Suggests a known word that is one letter off.
 
 use std::alloc::{AllocError, Allocator};
 use strsim::osa_distance;
@@ -6,8 +6,8 @@ use strsim::osa_distance;
 // A longer word is never one letter off a known one.
 const LONGEST: usize = 33;
 
-/// The first of the known words that is one letter off: of which one letter is missing, too many, another, or changed
-/// for its neighbour, or of which only the case differs. None for a word that is known.
+/// The first of the known words that is one letter off: one letter is missing, added, different, or swapped with its
+/// neighbour, or only the case differs. `None` for a known word.
 pub fn nearest<'a, A: Allocator + Copy>(
     alloc: A,
     word: &[u8],

@@ -6,16 +6,16 @@ ghost use Rattle.acta_args.specs.Models.{IsModel, IsUnknown, begins_at, standard
 
 use acta_models::Standard;
 
-/// Where the model is.
+/// Where the model comes from.
 #[derive(Clone, Copy, Debug, PartialEq, Eq)]
 pub enum ModelName<'a> {
-    /// The program holds it: it was named after an `@`.
+    /// A standard model, named after an `@`.
     Standard(Standard),
-    /// In the file at this path.
+    /// The file at this path.
     Path(&'a str),
 }
 
-// The standard model that is named so, after an `@`.
+// The standard model with this name, after an `@`.
 fn standard_named(model: &str) -> Option<Standard>
     ensures some { IfSome result (λ standard. model.now ≡ standard_text standard) }
     ensures none { IfNone result ((standard : StandardModel) → model.now ≢ standard_text standard) }
@@ -37,7 +37,7 @@ fn begins_with_at(model: &str) -> bool
     model.starts_with('@')
 }
 
-/// The model that is named so, if it is a file or a standard one.
+/// The model with this name: a standard one or a file. `None` if no standard model has the name after an `@`.
 pub fn model_named(model: &str) -> Option<ModelName<'_>>
     ensures some { IfSome result (IsModel model.now) }
     ensures none { IfNone result (IsUnknown model.now) }

@@ -1,4 +1,4 @@
-//! The parts of which the command lines are made, and how one is read.
+//! The parts from which command lines are built, and how one is read.
 
 use crate::fault::UsageFault;
 use clap::error::ErrorKind;
@@ -7,13 +7,13 @@ use std::alloc::{AllocError, Global};
 
 /// The command line of a command.
 pub trait CommandLine<'a> {
-    /// What it asks for.
+    /// The parsed arguments.
     type Asked: Drop;
 
     /// The arguments and options that it has.
     fn surface(alloc: Global) -> Result<Command<'a>, AllocError>;
 
-    /// What the matches ask for. A fault names what is wrong with them.
+    /// Converts the matches. A fault says what is wrong with them.
     fn asked(
         alloc: Global,
         surface: &mut Command<'a>,
@@ -21,7 +21,7 @@ pub trait CommandLine<'a> {
     ) -> Result<Self::Asked, UsageFault>;
 }
 
-/// A command line with one argument more, if memory lasted so far.
+/// A command line with one more argument, unless memory has run out.
 pub fn with_arg<'a>(
     command: Result<Command<'a>, AllocError>,
     arg: Arg<'a>,
@@ -67,7 +67,7 @@ pub fn usage(surface: &mut Command<'_>, kind: ErrorKind, text: &str) -> UsageFau
     }
 }
 
-/// The last part of the program's name, which is the first of the words.
+/// The last part of the program's path, which is the first of the words.
 pub fn program_name(words: &[String]) -> &str {
     match words.first() {
         Some(path) => path.as_str().rsplit('/').next().unwrap_or("acta"),
@@ -75,7 +75,7 @@ pub fn program_name(words: &[String]) -> &str {
     }
 }
 
-// How the command is called: by the last part of the program's name and its own.
+// The name of the command in usage texts: the last part of the program's path, and the command.
 fn called(alloc: Global, words: &[String]) -> Result<String, AllocError> {
     let program = program_name(words);
     let command = match words.get(1) {
@@ -85,7 +85,7 @@ fn called(alloc: Global, words: &[String]) -> Result<String, AllocError> {
     format!(in alloc; "{program} {command}")
 }
 
-// What `clap` reads in the words.
+// The matches of `clap` for the words.
 fn matched<'a>(
     surface: &mut Command<'a>,
     words: &'a [String],
@@ -99,7 +99,7 @@ fn matched<'a>(
     }
 }
 
-// What the words after the command's name ask for.
+// Parses the words after the command's name.
 fn asked_on<'a, L: CommandLine<'a>>(
     alloc: Global,
     mut surface: Command<'a>,
@@ -113,7 +113,7 @@ fn asked_on<'a, L: CommandLine<'a>>(
     asked
 }
 
-// The command line of a command that is called by this name.
+// The command line of a command, with this name.
 fn surface_named<'a, L: CommandLine<'a>>(
     alloc: Global,
     name: &str,
@@ -122,8 +122,8 @@ fn surface_named<'a, L: CommandLine<'a>>(
     surface.no_binary_name(true).bin_name(name)
 }
 
-/// What the words ask for, of which the first is the program's name and the second the command's. `Usage` if the words
-/// are no such command line or ask for help, with the text of `clap`; `UnknownModel` if no standard model has the name
+/// Parses a command line; the first word is the program's name and the second the command's. Returns `Usage` with the text
+/// of `clap` if the words are not such a command line or ask for help; `UnknownModel` if no standard model has the name
 /// after an `@`; `Memory` if memory runs out.
 pub fn parse<'a, L: CommandLine<'a>>(
     alloc: Global,

@@ -1,4 +1,4 @@
--- Operations, brought one item further.
+-- Operations after one more item.
 use Rattle.std.proofs.Common.{if◌then◌else◌, ◌≡◌, ℕ, suc, ◌+◌, ◌≤◌, ◌==◌, Bool, true, false, ◌&&◌, cond, List, [], ◌∷◌, ◌++◌, length, map, Option, Some, None, refl, sym, ap, ◌∙◌, arith}
 use Rattle.std.specs.Prelude.{option_to_list}
 use Rattle.std.specs.List.{find, filter_map, cons_option}
@@ -24,7 +24,7 @@ use Rattle.acta_axioms.specs.inside.TxnRecords.{heir_by}
 use Rattle.acta_axioms.specs.inside.Walking.{standing_in}
 use Rattle.acta_axioms.proofs.Growth.{found-passes, at_end, length-places, added, operations-push, number_after-push, shown-push, standing-push, standing-new, operation_place, operations_within}
 
--- how an operation stands, one item further
+-- the standing of an operation after one more item
 brought-carried : {A : Type 0} (m : Parts A) (h : List (Kept A)) (k : Kept A) (o : Operation) (s : Standing) → brought (heir_by m h k.event) k.event o.number (held_op o s) ≡ held_op o (carried m o.number s (at_end h k))
 brought-carried {A} m h k o s = of_fate s.fate
   where
@@ -59,7 +59,7 @@ brought-carried {A} m h k o s = of_fate s.fate
     of_fate Committed = refl
     of_fate Aborted = refl
 
--- the operations are numbered from 1 on
+-- the operations are numbered from 1
 brought-numbered : {A B : Type 0} (left : Option TxnId) (e : Event B) (show : Operation → HeldOp) (before ks : List (Kept A)) →
     brought_from left e (number_after before) (map show (filter_map operation_at (places_behind before ks))) ≡ map (λ o. brought left e o.number (show o)) (filter_map operation_at (places_behind before ks))
 brought-numbered left e show before [] = refl
@@ -98,7 +98,7 @@ few-operations m h =
     let few = fewer operation_at (places h) in
     omega (arith, all, few, length-places h)
 
--- the operations with how they stand, one item further
+-- the operations with their standings after one more item
 pub held_ops-push : {A : Type 0} (m : Parts A) (h : List (Kept A)) (k : Kept A) →
     brought_from (heir_by m h k.event) k.event 1 (held_ops m h) ++ option_to_list (op_done k.event) ≡ held_ops m (h ++ k ∷ [])
 held_ops-push m h k =
@@ -107,11 +107,11 @@ held_ops-push m h k =
 
 -- one operation, followed along the items
 
--- as it is kept, whatever object it is on
+-- in the form in which a walk keeps it, whatever its object
 carried-in : {A : Type 0} (m : Parts A) (h : List (Kept A)) (k : Kept A) (o : ℕ) (x : HeldOp) → standing_in (brought (heir_by m h k.event) k.event o x) ≡ carried m o (standing_in x) (at_end h k)
 carried-in m h k o x = ap standing_in (brought-carried m h k (record { number = o; place = 0; invoker = 0; object = x.ob.0; op = x.op; ret = None }) (standing_in x))
 
--- the one that the item is, where it has this number
+-- the item's own operation, if it has this number
 begun-here : {A : Type 0} (m : Parts A) (h : List (Kept A)) (k : Kept A) (o : ℕ) →
     option_map standing_in (if number_after h == o then op_done k.event else None) ≡ option_map (standing m (h ++ k ∷ [])) (find (λ q. q.number == o) (added h k))
 begun-here {A} m h k o = of_event k.event (λ q is. new q is)
@@ -132,7 +132,7 @@ begun-here {A} m h k o = of_event k.event (λ q is. new q is)
     of_event (Operate t object op) is = of_test (number_after h == o) _ _ (sym (is _ refl))
     of_event _ is = none (number_after h == o)
 
--- an operation that is there goes on, and a new one begins
+-- an operation that exists is followed, and a new one is added
 pub standing-more : {A : Type 0} (m : Parts A) (h : List (Kept A)) (k : Kept A) (o : ℕ) (held : Option HeldOp) → option_map standing_in held ≡ standing_of m h o →
     option_map standing_in (followed_on (heir_by m h k.event) k.event o (number_after h) held) ≡ standing_of m (h ++ k ∷ []) o
 standing-more {A} m h k o held is =

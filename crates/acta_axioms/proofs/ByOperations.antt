@@ -1,5 +1,5 @@
--- What a list that goes by operations tells, where each of its items shows how an operation stands: the
--- numbers of those that conflict, who holds them, and the values of objects.
+-- Lists with one item for each operation, showing its standing, give the numbers of conflicting operations, their
+-- holders, and the values of objects.
 use Rattle.std.proofs.Common.{if◌then◌else◌, ◌≡◌, ℕ, ◌==◌, Bool, true, false, ◌&&◌, cond, List, [], ◌∷◌, map, filter, Option, None, refl, sym, ap, ◌∙◌}
 use Rattle.std.specs.List.{filter_map, cons_option}
 use Rattle.std.proofs.lemmas.List.Elements.{filter_agree}
@@ -22,7 +22,7 @@ held-shown {X} holder show test held holds (o ∷ os) = of_test (test (show o)) 
     of_test true later = λ i. sym (holds o) i ∷ later i
     of_test false later = later
 
--- those who hold them, by what is shown
+-- the holders, from what the items show
 pub holders-shown : {A X : Type 0} (m : Parts A) (h : List (Kept A)) (t object : ℕ) (op : Op) (show : Operation → X) (test : X → Bool) (held : X → ℕ) →
     ((o : Operation) → test (show o) ≡ (is_of_others m h t o.object (standing m h o) && ((o.object == object) && do_conflict m object o.op op))) →
     ((o : Operation) → held (show o) ≡ (standing m h o).holder) →
@@ -44,7 +44,7 @@ asked-shown {X} seen asked show ask tells (o ∷ os) =
     of_test true later = ap (cons_option (asked o)) later
     of_test false later = later
 
--- the value of an object by what is shown
+-- the value of an object, from what the items show
 pub value-shown : {A X : Type 0} (m : Parts A) (h : List (Kept A)) (object : ℕ) (kind : Kind) (show : Operation → X) (ask : X → Option Op) →
     ((o : Operation) → ask (show o) ≡ (if is_in_view (standing m h o) then asked_of object kind o else None)) →
     value m h object kind ≡ state_after (first_state kind) (filter_map ask (map show (operations h)))

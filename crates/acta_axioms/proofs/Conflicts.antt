@@ -1,4 +1,4 @@
--- Operations that conflict by the table of pairs are of their object's kind.
+-- Operations that conflict by the table of pairs belong to their object's kind.
 use Rattle.std.proofs.Common.{◌≡◌, ℕ, Bool, true, false, ◌&&◌, Option, Some, None, refl, sym, ap, ◌∙◌}
 use Rattle.std.proofs.lemmas.Bool.{false≢true}
 use Rattle.std.specs.Option.{option_map_or}
@@ -60,7 +60,7 @@ of_kind (register_kind v) p q = of_registers p q
 of_kind (counter_kind v) p q = of_counters p q
 of_kind elements_kind p q = of_sets p q
 
--- whether two operations conflict on an object is what the table of pairs says
+-- two operations on an object conflict exactly if the table of pairs says so
 pub do_conflict-on : {A : Type 0} (m : Parts A) (object : ℕ) (p q : Op) → do_conflict m object p q ≡ conflict_on m object p q
 do_conflict-on m object p q = of_object (kind_at m object)
   where
@@ -68,7 +68,7 @@ do_conflict-on m object p q = of_object (kind_at m object)
     of_object None = refl
     of_object (Some kind) = of_kind kind p q
 
--- where an operation is well formed, it conflicts with those that the table counts
+-- a well-formed operation conflicts with those that the table says
 kind-conflicts : (k : Option Kind) (p op : Op) → option_map_or (λ kind. suits kind op) k false ≡ true → ops_conflict p op ≡ option_map_or (λ kind. conflicts kind p op) k false
 kind-conflicts None p op is = absurd (false≢true is)
 kind-conflicts (Some kind) p op is = sym (conflicts_equivalent kind p op is)
@@ -76,7 +76,7 @@ kind-conflicts (Some kind) p op is = sym (conflicts_equivalent kind p op is)
 pub suits-conflicts : {A : Type 0} (m : Parts A) (object : ℕ) (p op : Op) → is_well_formed m object op ≡ true → ops_conflict p op ≡ conflict_on m object p op
 suits-conflicts m object p op is = kind-conflicts (kind_at m object) p op is
 
--- and where it is not, with none
+-- an ill-formed operation conflicts with none
 none_and : (a : Bool) → (a && false) ≡ false
 none_and true = refl
 none_and false = refl

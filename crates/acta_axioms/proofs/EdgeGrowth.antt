@@ -1,4 +1,4 @@
--- What the edges and the courses become when one kept item is put at the end of a history.
+-- The edges and the courses when one kept item is appended to a history.
 use Rattle.std.proofs.Common.{if◌then◌else◌, ◌==◌, ◌≡◌, ℕ, ◌+◌, ◌≤◌, Bool, true, false, ◌&&◌, ◌||◌, not, List, [], ◌∷◌, ◌++◌, length, Option, Some, None, option_map, refl, sym, ap, ◌∙◌, arith}
 use Rattle.std.specs.Prelude.{⊤}
 use Rattle.std.specs.List.{flat_map, list_all}
@@ -48,7 +48,7 @@ edges-push m h k =
     ∙ fold-append with_edge [] (flat_map (formed_at m) (places h)) (flat_map (formed_at m) (at_end h k ∷ []))
     ∙ ap (formed (edges m h)) (append-nil (formed_by m h k.event))
 
--- where the rule on two transactions holds, they are two
+-- if the rule on the same transaction is not broken, the two are different
 two_apart : (t : ℕ) (same : Bool) → broken_by SameTransaction (if same then Some t else None) ≡ None → not same ≡ true
 two_apart t true is = absurd (none-some _ (sym is))
 two_apart t false is = refl
@@ -60,7 +60,7 @@ apart_with es e all here = of_test (is_among es e)
     of_test true = all
     of_test false = list_all-append is_apart es (e ∷ []) ∙ (λ i. all i && (here i && true))
 
--- the edges of a spawn or a split of another join two, in either direction
+-- the edges of a spawn or a split of another are between two transactions, in either direction
 apart_between : (t u : TxnId) (e : StartEdge) → not (t.0 == u.0) ≡ true → is_apart (edge_between t u e) ≡ true
 apart_between t u e apart = of_dependent e.dependent
   where
@@ -78,12 +78,12 @@ apart_formed es (e ∷ more) all each =
     let both = and_parts (is_apart e) (list_all is_apart more) each in
     apart_formed (with_edge es e) more (apart_with es e all both.0) both.1
 
--- and so do those of an operation: none who holds what it conflicts with is its own transaction
+-- so are those of an operation: no conflicting holder is its own transaction
 apart_upon : {A : Type 0} (m : Parts A) (h : List (Kept A)) (policy : Policy) (t : TxnId) (object : ℕ) (op : Op) → list_all is_apart (edges_upon policy t (holders_against m h t.0 object op)) ≡ true
 apart_upon m h policy t object op =
     all-upon is_apart (λ u. not (u == t.0)) policy t (holders_against m h t.0 object op) (λ kind u is other. ap not (eqb-turned t.0 u) ∙ other) (holders-others m h t.0 object op)
 
--- an event that names no transaction twice leaves each edge between two
+-- after an event that names no transaction twice, each edge is between two transactions
 pub apart-push : {A : Type 0} (m : Parts A) (h : List (Kept A)) (k : Kept A) → list_all is_apart (edges m h) ≡ true → same_transaction k.event ≡ None → list_all is_apart (edges m (h ++ k ∷ [])) ≡ true
 unfolding same_transaction
 apart-push {A} m h k all apart = ap (list_all is_apart) (edges-push m h k) ∙ of_event k.event apart
@@ -110,7 +110,7 @@ first_within {A} test h = of_found (first test h) refl
     of_found None is = tt
     of_found (Some p) is = (found-passes (λ q. test q.kept.event) (λ q. number q ≤ length h) (places h) p (places_within (length h) [] h (omega arith)) is).1
 
--- no course goes past the end of its history
+-- the places of a course are within its history
 pub course-within : {A : Type 0} (h : List (Kept A)) (t : ℕ) → IsWithin (length h) (course h t)
 course-within h t = record {
   start = first_within (starts t) h;
@@ -125,13 +125,13 @@ or_none h o b not_here = ap (or_here h o) not_here ∙ or_here-false h o
 or_new : {A : Type 0} (h : List (Kept A)) (o : Option ℕ) (t : ℕ) → o ≡ None → or_here h o (t == t) ≡ Some (length h + 1)
 or_new h o t none = λ i. or_here h (none i) (eq-eqb t t refl i)
 
--- a course, one item further, by what becomes of each of its places
+-- a course after one more item, from its places
 course-with : {A : Type 0} (h : List (Kept A)) (k : Kept A) (u : ℕ) (s c a j : Option ℕ) →
     or_here h (course h u).start (starts u k.event) ≡ s → or_here h (course h u).commit (commits u k.event) ≡ c → or_here h (course h u).abort (aborts u k.event) ≡ a → or_here h (course h u).join (joins u k.event) ≡ j →
     course (h ++ k ∷ []) u ≡ record { start = s; commit = c; abort = a; join = j }
 course-with h k u s c a j start commit abort join = course-push h k u ∙ (λ i. record { start = start i; commit = commit i; abort = abort i; join = join i })
 
--- an event that neither starts nor ends u leaves its course
+-- an event that neither starts nor ends u does not change its course
 pub course-other : {A : Type 0} (h : List (Kept A)) (k : Kept A) (u : ℕ) → starts u k.event ≡ false → commits u k.event ≡ false → aborts u k.event ≡ false → joins u k.event ≡ false → course (h ++ k ∷ []) u ≡ course h u
 course-other h k u no_start no_commit no_abort no_join =
     course-with h k u _ _ _ _ (or_none h (course h u).start _ no_start) (or_none h (course h u).commit _ no_commit) (or_none h (course h u).abort _ no_abort) (or_none h (course h u).join _ no_join)
@@ -180,7 +180,7 @@ course-join h t u ret none =
 pub orderly-none : {A : Type 0} (m : Parts A) → IsOrderly m []
 orderly-none m = record { courses = λ t. refl; edges = refl }
 
--- a course stays orderly where nothing ends
+-- a course stays orderly if nothing ends
 orderly_begun : {A : Type 0} (h : List (Kept A)) (s c a j : Option ℕ) (b : Bool) → is_orderly (record { start = s; commit = c; abort = a; join = j }) ≡ true →
     is_orderly (record { start = or_here h s b; commit = or_here h c false; abort = or_here h a false; join = or_here h j false }) ≡ true
 orderly_begun h (Some i) None None None b is = refl
@@ -196,7 +196,7 @@ orderly_begun h None None None (Some l) b is = absurd (false≢true is)
 orderly_begun h None None (Some l) j b is = absurd (false≢true is)
 orderly_begun h None (Some l) a j b is = absurd (false≢true is)
 
--- and where one in progress ends in one way
+-- and if a transaction in progress ends in one way
 orderly_ended : {A : Type 0} (h : List (Kept A)) (s c a j : Option ℕ) (b d f : Bool) → ((b && d) || ((b && f) || (d && f))) ≡ false → course_status (record { start = s; commit = c; abort = a; join = j }) ≡ InProgress →
     is_orderly (record { start = or_here h s false; commit = or_here h c b; abort = or_here h a d; join = or_here h j f }) ≡ true
 orderly_ended h (Some i) None None None true true f one is = absurd (true≢false one)
@@ -211,14 +211,14 @@ orderly_ended h s None None (Some l) b d f one is = absurd (cc)
 orderly_ended h s None (Some l) j b d f one is = absurd (cc)
 orderly_ended h s (Some l) a j b d f one is = absurd (cc)
 
--- the one that the event ends, if it ends one, is in progress
+-- the transaction that the event ends, if any, is in progress
 abbrev pub EndsInProgress : {A : Type 0} → List (Kept A) → Event A → Type 0
 EndsInProgress h (Join t u) = status_at h t.0 ≡ InProgress
 EndsInProgress h (Commit t) = status_at h t.0 ≡ InProgress
 EndsInProgress h (Abort t) = status_at h t.0 ≡ InProgress
 EndsInProgress h _ = ⊤
 
--- orderly courses stay so where only what is in progress ends
+-- courses stay orderly if only transactions in progress end
 pub course-orderly-push : {A : Type 0} (h : List (Kept A)) (k : Kept A) → ((t : ℕ) → is_orderly (course h t) ≡ true) → EndsInProgress h k.event → (t : ℕ) → is_orderly (course (h ++ k ∷ []) t) ≡ true
 course-orderly-push {A} h k all ending t = ap is_orderly (course-push h k t) ∙ of_event k.event ending
   where

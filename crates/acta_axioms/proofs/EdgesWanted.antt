@@ -1,4 +1,4 @@
--- What an event forms that is no operation does not hang on what stands before it.
+-- The edges of an event that is no operation do not depend on the earlier items.
 use Rattle.std.proofs.Common.{◌≡◌, List, refl}
 use Rattle.acta_table.specs.declared.event.Event.{Event}
 use Rattle.acta_table.specs.declared.event.Event.TheVariants.{Begin, Spawn, Split, Join, Delegate, Form, Operate, Commit, Abort, Permit}

@@ -1,4 +1,4 @@
--- Examples: what the definitions make of some histories, legal and not.
+-- Examples: the definitions applied to some histories, legal and not.
 use Rattle.std.specs.Prelude.{ℕ, true, false, Option, Some, None, pos, List, [], ◌∷◌, ◌++◌, map, take, ◌≡◌, refl}
 use Rattle.acta_table.specs.declared.dep.Dep.{Dep}
 use Rattle.acta_table.specs.declared.dep.Edge.{Edge}
@@ -32,7 +32,7 @@ use Rattle.acta_table.specs.declared.event.Op.{Op}
 use Rattle.acta_table.specs.declared.event.Ret.{Ret}
 use Rattle.acta_axioms.proofs.Histories.{begin, spawn, split, join, delegate, form, operate, commit, abort, edge, owes, fault, plain, model, edgeless, parting, nesting, loose, class, Said, parsed, holds, is_due, breaks}
 
--- the numbers of these operations
+-- the numbers of the operations
 abbrev numbers : List Operation → List ℕ
 numbers os = map (λ o. o.number) os
 
@@ -40,11 +40,11 @@ numbers os = map (λ o. o.number) os
 abbrev by : {X : Type 0} → Parts (Unit {0}) → List (Kept (Unit {0})) → X → Parts (Unit {0}) × List (Kept (Unit {0})) × X
 by m h is = (m, h, is)
 
--- one that writes and commits
+-- a transaction that writes and commits
 abbrev written : List (Kept (Unit {0}))
 written = begin 1 0 ∷ operate 1 0 (Write (pos 5)) Done ∷ commit 1 ∷ []
 
--- sums commute, and what is aborted is not counted
+-- sums commute, and aborted operations do not count
 abbrev counted : List (Kept (Unit {0}))
 counted =
     begin 1 0 ∷ begin 2 0 ∷ operate 1 1 (Add (pos 5)) Done ∷ operate 2 1 (Add (pos 7)) Done ∷ abort 1
@@ -58,19 +58,19 @@ unruly =
     begin 1 0 ∷ begin 1 1 ∷ operate 2 0 (Write (pos 5)) Done ∷ operate 1 0 (Write (pos 6)) Done
     ∷ operate 1 9 Read Done ∷ operate 1 0 (Insert (pos 1)) (Flag true) ∷ commit 1 ∷ abort 1 ∷ begin 65535 9 ∷ []
 
--- a transaction that owes both a commit and an abort: each formula is owed, and still it is not legal
+-- a transaction that owes both a commit and an abort: each formula is owed, but the history is not legal
 abbrev all_owing_both : List (Kept (Unit {0}))
 all_owing_both = form Scd 2 1 ∷ form Ed 2 1 ∷ begin 1 3 ∷ begin 2 3 ∷ commit 1 ∷ []
 
--- an operation that is handed over: its new holder commits it, and the end of the one that did it is nothing to it
+-- a delegated operation: its new holder commits it, whatever its invoker does
 abbrev transferred : List (Kept (Unit {0}))
 transferred = begin 1 4 ∷ begin 2 4 ∷ operate 1 0 (Write (pos 5)) Done ∷ delegate 1 2 (1 ∷ []) ∷ abort 1 ∷ commit 2 ∷ []
 
--- but it can be handed back
+-- it can be delegated back
 abbrev returned : List (Kept (Unit {0}))
 returned = take 4 transferred ++ delegate 2 1 (1 ∷ []) ∷ abort 2 ∷ commit 1 ∷ []
 
--- a delegation by one that doesn't hold the operation leaves it where it is, and so does one behind its end
+-- a delegation by a transaction that does not hold the operation changes nothing, nor does one after its end
 abbrev unheld : List (Kept (Unit {0}))
 unheld =
     begin 1 4 ∷ begin 2 4 ∷ operate 1 0 (Write (pos 5)) Done ∷ delegate 2 1 (1 ∷ []) ∷ commit 1
@@ -80,38 +80,39 @@ unheld =
 abbrev unknown : List (Kept (Unit {0}))
 unknown = begin 1 4 ∷ begin 2 4 ∷ delegate 1 2 (0 ∷ 1 ∷ 7 ∷ []) ∷ operate 1 0 (Write (pos 5)) Done ∷ []
 
--- a part, by one that has to hand over all: what it leaves out are the operations in progress that it holds
+-- a partial delegation although all is required: it leaves out the operations in progress that the transaction holds
 abbrev partial : List (Kept (Unit {0}))
 partial =
     begin 1 5 ∷ begin 2 4 ∷ operate 1 0 (Write (pos 5)) Done ∷ operate 1 1 (Add (pos 5)) Done
     ∷ operate 2 1 (Add (pos 7)) Done ∷ operate 1 2 (Insert (pos 1)) (Flag true) ∷ delegate 1 2 (2 ∷ [])
     ∷ delegate 1 2 (1 ∷ 4 ∷ []) ∷ delegate 1 2 [] ∷ []
 
--- a delegation of one to itself: the operation stays with it
+-- a delegation of a transaction to itself changes nothing
 abbrev own : List (Kept (Unit {0}))
 own = begin 1 4 ∷ operate 1 0 (Write (pos 5)) Done ∷ delegate 1 1 (1 ∷ []) ∷ commit 1 ∷ []
 
--- one that splits off another with the first of its two operations, and then joins it, which commits both
+-- a transaction splits off another with the first of its two operations and then joins it; both operations are
+-- committed
 abbrev parted : List (Kept (Unit {0}))
 parted =
     begin 1 0 ∷ operate 1 0 (Write (pos 5)) Done ∷ operate 1 1 (Add (pos 5)) Done ∷ split 1 2 0 (1 ∷ [])
     ∷ join 1 2 ∷ commit 2 ∷ []
 
--- one that spawns a child, which writes over what its parent wrote and commits to it; the parent aborts
+-- a transaction spawns a child, which writes over its parent's write and commits to it; the parent aborts
 abbrev nested : List (Kept (Unit {0}))
 nested =
     begin 1 0 ∷ operate 1 0 (Write (pos 5)) Done ∷ spawn 1 2 1 ∷ operate 2 0 (Write (pos 6)) Done
     ∷ commit 2 ∷ abort 1 ∷ []
 
--- children of children, the last spawned once more by another: it keeps its line
+-- children of children; the last is spawned again by another transaction and keeps its ancestors
 abbrev lined : List (Kept (Unit {0}))
 lined = begin 1 0 ∷ spawn 1 2 1 ∷ spawn 2 3 1 ∷ spawn 1 3 1 ∷ []
 
--- one that was spawned by one that had not begun has no parent, and one whose parent has ended has an heir still
+-- a transaction spawned by one that had not begun has no parent; one whose parent has ended still has an heir
 abbrev bereft : List (Kept (Unit {0}))
 bereft = spawn 9 2 1 ∷ begin 1 0 ∷ spawn 1 3 1 ∷ abort 1 ∷ commit 3 ∷ commit 2 ∷ []
 
--- one that reads what another wrote depends on it, and once more on the one that was handed the write
+-- a reader depends on the writer, and on the transaction to which the write was delegated
 abbrev read_loosely : List (Kept (Unit {0}))
 read_loosely =
     begin 1 0 ∷ begin 2 0 ∷ begin 3 0 ∷ operate 1 0 (Write (pos 5)) Done ∷ operate 2 0 Read (Value (pos 5))
@@ -140,7 +141,7 @@ courses_shown :
     × (map (heir nesting bereft) (1 ∷ 2 ∷ 3 ∷ []) ≡ None ∷ None ∷ Some (record { 0 = 1 }) ∷ [])
 courses_shown = (refl, refl, refl, refl, refl, refl, refl, refl, refl, refl, refl, refl, refl, refl)
 
--- who holds an operation at these places
+-- the holder of an operation after these places
 abbrev held : List (Parts (Unit {0}) × List (Kept (Unit {0})) × ℕ × List ℕ × List (Option ℕ))
 held =
     -- the operation stands at the second place; there is no operation 0 or 2
@@ -162,7 +163,7 @@ held =
 held_shown : map (λ r. map (holder_at r.0 r.1 r.2) r.3) held ≡ map (λ r. r.4) held
 held_shown = refl
 
--- the fate of an operation at these places
+-- the fate of an operation after these places
 abbrev fates : List (Parts (Unit {0}) × List (Kept (Unit {0})) × ℕ × List ℕ × List (Option Fate))
 fates =
     (model, written, 1, 1 ∷ 2 ∷ 3 ∷ 9 ∷ [], None ∷ Some InProgress ∷ Some Committed ∷ Some Committed ∷ [])
@@ -187,7 +188,7 @@ fates =
 fates_shown : map (λ r. map (fate_at r.0 r.1 r.2) r.3) fates ≡ map (λ r. r.4) fates
 fates_shown = refl
 
--- one that commits before it begins has no heir then
+-- a transaction that commits before it begins has no heir then
 early_shown :
     let write = operate 3 0 (Write (pos 5)) Done in
     let h = write ∷ commit 3 ∷ begin 1 0 ∷ spawn 1 3 1 ∷ write ∷ commit 3 ∷ [] in

@@ -1,4 +1,4 @@
--- A history that grows by items without fault meets the axioms, and what makes an item faultless.
+-- A history that grows by faultless items satisfies the axioms, and which items are faultless.
 use Rattle.std.proofs.Common.{if◌then◌else◌, ◌==◌, filter, ◌≡◌, ℕ, Bool, true, false, ◌||◌, not, cond, List, [], ◌∷◌, ◌++◌, None, is_some, refl, ap, ◌∙◌}
 use Rattle.acta_table.specs.declared.answer.Status.TheVariants.{NotBegun, InProgress}
 use Rattle.acta_table.specs.declared.dep.Dep.{Dep}
@@ -21,7 +21,7 @@ use Rattle.acta_axioms.specs.Claims.{MeetsAxioms, status_at}
 use Rattle.acta_axioms.proofs.Growth.{at_end, faults_in_places-push}
 use Rattle.acta_axioms.proofs.Statuses.{is_under_way, is_ended_status, in_progress-status, has_ended-status, has_begun-status}
 
--- an item behind these breaks no axiom
+-- an item after these breaks no axiom
 pub record IsFaultless {A : Type 0} (m : Parts A) (before : List (Kept A)) (k : Kept A) : Type 0 where
   pub begun_once : begun_again before k.event ≡ []
   pub ended_after_begun : ended_unbegun before k.event ≡ []
@@ -55,7 +55,7 @@ faults_at-none m h k ok =
     ++ (faults_of Heir n (ok.heir i)
     ++ (faults_of FormedInTime n (ok.formed_in_time i) ++ []))))))))))))
 
--- a list of two parts that is empty has no part
+-- if the concatenation is empty, both parts are
 pub none-both : {X : Type 0} (xs ys : List X) → xs ++ ys ≡ [] → (xs ≡ []) × (ys ≡ [])
 none-both [] ys e = (refl, e)
 none-both (x ∷ xs) ys e = cc
@@ -64,7 +64,7 @@ no_by : (broken : Axiom) (n : ℕ) (bys : List ℕ) → faults_of broken n bys �
 no_by broken n [] e = refl
 no_by broken n (b ∷ bys) e = cc
 
--- where no fault is at the end, the item there breaks no axiom
+-- if the last place has no fault, the item there breaks no axiom
 pub faultless-from : {A : Type 0} (m : Parts A) (h : List (Kept A)) (k : Kept A) → faults_at m (at_end h k) ≡ [] → IsFaultless m h k
 unfolding breaches
 faultless-from m h k none =
@@ -98,12 +98,12 @@ faultless-from m h k none =
       formed_in_time = no_by FormedInTime n _ f13.0;
     }
 
--- the empty history meets the axioms
+-- the empty history satisfies the axioms
 pub meets-none : {A : Type 0} (m : Parts A) → MeetsAxioms m []
 unfolding is_legal
 meets-none m = record { faultless = refl; legal = refl }
 
--- and so does each that grows by an item without fault, if it is legal then
+-- so does a history with one more faultless item, if it is legal
 pub meets-push : {A : Type 0} (m : Parts A) (h : List (Kept A)) (k : Kept A) → MeetsAxioms m h → IsFaultless m h k → is_legal m (h ++ k ∷ []) ≡ true → MeetsAxioms m (h ++ k ∷ [])
 meets-push m h k meets ok legal =
     record {
@@ -111,9 +111,9 @@ meets-push m h k meets ok legal =
       legal = legal;
     }
 
--- what makes an event faultless, by the status of its transaction
+-- faultless events, by the status of their transaction
 
--- none of the rules on the form of an event is broken
+-- no rule on the form of an event is broken
 pub well_formed : {A : Type 0} (m : Parts A) (e : Event A) → bad_number e ≡ None → bad_class m e ≡ None → bad_object m e ≡ None → bad_operation m e ≡ None → same_transaction e ≡ None → ill_formed m e ≡ []
 well_formed m e number class object operation apart =
     λ i. when (is_some (number i) || (is_some (class i) || (is_some (object i) || (is_some (operation i) || (is_some (apart i) || false))))) (first_named e)
@@ -130,7 +130,7 @@ begun h t is = has_begun-status h t (ap is_ended_status is) ∙ ap is_under_way 
 not_ended : {A : Type 0} (h : List (Kept A)) (t : ℕ) → status_at h t ≡ InProgress → has_ended h t ≡ false
 not_ended h t is = has_ended-status h t ∙ ap is_ended_status is
 
--- a begin of one that has not begun
+-- a begin of a transaction that has not begun
 pub faultless-begin : {A : Type 0} (m : Parts A) (h : List (Kept A)) (t : TxnId) (class : ClassId) → status_at h t.0 ≡ NotBegun →
     ill_formed m (Begin t class) ≡ [] → not_allowed m h (Begin t class) ≡ [] → IsFaultless m h (record { event = Begin t class; ret = None })
 faultless-begin m h t class status form allowed =
@@ -150,7 +150,7 @@ faultless-begin m h t class status form allowed =
       formed_in_time = refl;
     }
 
--- an edge that is formed in time
+-- a form event in time
 pub faultless-form : {A : Type 0} (m : Parts A) (h : List (Kept A)) (kind : Dep) (j i : TxnId) →
     ill_formed m (Form kind j i) ≡ [] → not_allowed m h (Form kind j i) ≡ [] → not_in_time h (Form kind j i) ≡ [] → IsFaultless m h (record { event = Form kind j i; ret = None })
 faultless-form m h kind j i form allowed in_time =
@@ -170,7 +170,7 @@ faultless-form m h kind j i form allowed in_time =
       formed_in_time = in_time;
     }
 
--- a spawn by one in progress of one that has not begun
+-- a spawn, by a transaction in progress, of one that has not begun
 pub faultless-spawn : {A : Type 0} (m : Parts A) (h : List (Kept A)) (t c : TxnId) (class : ClassId) → status_at h t.0 ≡ InProgress → status_at h c.0 ≡ NotBegun →
     ill_formed m (Spawn t c class) ≡ [] → not_allowed m h (Spawn t c class) ≡ [] → IsFaultless m h (record { event = Spawn t c class; ret = None })
 faultless-spawn m h t c class status status_of_child form allowed =
@@ -190,7 +190,7 @@ faultless-spawn m h t c class status status_of_child form allowed =
       formed_in_time = refl;
     }
 
--- a split by one in progress of one that has not begun, of operations that it holds, and of all where it has to
+-- a split, by a transaction in progress, of one that has not begun, with operations that it holds, and all if required
 pub faultless-split : {A : Type 0} (m : Parts A) (h : List (Kept A)) (t u : TxnId) (class : ClassId) (ops : List OpNo) → status_at h t.0 ≡ InProgress → status_at h u.0 ≡ NotBegun →
     ill_formed m (Split t u class ops) ≡ [] → not_allowed m h (Split t u class ops) ≡ [] → transferred_unheld m h (Split t u class ops) ≡ [] → kept_back m h (Split t u class ops) ≡ [] →
     IsFaultless m h (record { event = Split t u class ops; ret = None })
@@ -211,7 +211,7 @@ faultless-split m h t u class ops status status_of_other form allowed held whole
       formed_in_time = refl;
     }
 
--- a join by one in progress of one in progress
+-- a join of a transaction in progress with one in progress
 pub faultless-join : {A : Type 0} (m : Parts A) (h : List (Kept A)) (t u : TxnId) → status_at h t.0 ≡ InProgress → status_at h u.0 ≡ InProgress →
     ill_formed m (Join t u) ≡ [] → not_allowed m h (Join t u) ≡ [] → IsFaultless m h (record { event = Join t u; ret = None })
 faultless-join m h t u status status_of_other form allowed =
@@ -231,7 +231,7 @@ faultless-join m h t u status status_of_other form allowed =
       formed_in_time = refl;
     }
 
--- of two that are in progress, or one named twice, none is idle
+-- if two transactions are in progress, also if they are the same, none is idle
 both-under-way : {A : Type 0} (h : List (Kept A)) (t u : TxnId) → status_at h t.0 ≡ InProgress → status_at h u.0 ≡ InProgress → filter (λ v. not (is_in_progress h v)) (if t.0 == u.0 then t.0 ∷ [] else t.0 ∷ u.0 ∷ []) ≡ []
 both-under-way h t u status status_of_other = of_test (t.0 == u.0)
   where
@@ -239,7 +239,7 @@ both-under-way h t u status status_of_other = of_test (t.0 == u.0)
     of_test true = ap (λ b. cond (not b) (t.0 ∷ []) []) (under_way h t.0 status)
     of_test false = λ i. let others = cond (not (under_way h u.0 status_of_other i)) (u.0 ∷ []) [] in cond (not (under_way h t.0 status i)) (t.0 ∷ others) others
 
--- a delegation by one in progress to one in progress, of operations that it holds, and of all where it has to
+-- a delegation between transactions in progress, of operations held, and of all if required
 pub faultless-delegate : {A : Type 0} (m : Parts A) (h : List (Kept A)) (t u : TxnId) (ops : List OpNo) → status_at h t.0 ≡ InProgress → status_at h u.0 ≡ InProgress →
     ill_formed m (Delegate t u ops) ≡ [] → not_allowed m h (Delegate t u ops) ≡ [] → transferred_unheld m h (Delegate t u ops) ≡ [] → kept_back m h (Delegate t u ops) ≡ [] →
     IsFaultless m h (record { event = Delegate t u ops; ret = None })
@@ -260,7 +260,7 @@ faultless-delegate m h t u ops status status_of_other form allowed held whole =
       formed_in_time = refl;
     }
 
--- a permit of one in progress for one in progress
+-- a permit between transactions in progress
 pub faultless-permit : {A : Type 0} (m : Parts A) (h : List (Kept A)) (t u : TxnId) (ob : ObjId) → status_at h t.0 ≡ InProgress → status_at h u.0 ≡ InProgress →
     ill_formed m (Permit t u ob) ≡ [] → not_allowed m h (Permit t u ob) ≡ [] → IsFaultless m h (record { event = Permit t u ob; ret = None })
 faultless-permit m h t u ob status status_of_other form allowed =
@@ -280,7 +280,7 @@ faultless-permit m h t u ob status status_of_other form allowed =
       formed_in_time = refl;
     }
 
--- an end of one in progress, which has a parent in progress where it commits to its parent
+-- a commit of a transaction in progress, which has a parent in progress if it commits to parents
 pub faultless-commit : {A : Type 0} (m : Parts A) (h : List (Kept A)) (t : TxnId) → status_at h t.0 ≡ InProgress →
     ill_formed m (Commit t) ≡ [] → not_allowed m h (Commit t) ≡ [] → without_heir m h (Commit t) ≡ [] → IsFaultless m h (record { event = Commit t; ret = None })
 faultless-commit m h t status form allowed left =

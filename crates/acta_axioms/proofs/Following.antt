@@ -1,4 +1,4 @@
--- What an event does to the operations is what the table's calls do.
+-- The effect of an event on the operations is that of the table's calls.
 use Rattle.std.proofs.Common.{if◌then◌else◌, ◌≡◌, ℕ, ◌+◌, ◌==◌, Bool, true, false, ◌&&◌, List, [], ◌∷◌, ◌++◌, Option, Some, None, refl, sym, ap, ◌∙◌, arith}
 use Rattle.std.specs.Prelude.{option_to_list}
 use Rattle.std.proofs.lemmas.Bool.Decides.{nat_tests}
@@ -20,7 +20,7 @@ use Rattle.acta_axioms.specs.inside.Holding.{in_hand, ended_so, brought, brought
 flip : (a b : ℕ) → (a == b) ≡ (b == a)
 flip a b = grind (arith, nat_tests)
 
--- what is done to those in progress of one holder
+-- the effect on the operations in progress of one holder
 one_step : (f e d : Bool) (y x : HeldOp) → e ≡ d → (if f then (if e then y else x) else x) ≡ (if d && f then y else x)
 one_step true true true y x same = refl
 one_step true true false y x same = let no : true ≡ false = same in cc
@@ -29,7 +29,7 @@ one_step true false false y x same = refl
 one_step false e true y x same = refl
 one_step false e false y x same = refl
 
--- and to those of them that are named
+-- the effect on those of them that are named
 named_step : (f e d b : Bool) (y x : HeldOp) → e ≡ d → (if f then (if e && b then y else x) else x) ≡ (if (d && f) && b then y else x)
 named_step true true true b y x same = refl
 named_step true true false b y x same = let no : true ≡ false = same in cc
@@ -66,7 +66,7 @@ still : (f : Bool) (x : HeldOp) → x ≡ (if f then x else x)
 still true x = refl
 still false x = refl
 
--- all, one event further, with the one that the event is
+-- all operations after an event, including the event's own
 abbrev pub further_on : {A : Type 0} → Option TxnId → Event A → List HeldOp → List HeldOp
 further_on left e xs = brought_from left e 1 xs ++ option_to_list (op_done e)
 
@@ -92,18 +92,18 @@ pub still_from : {A : Type 0} (left : Option TxnId) (e : Event A) (n : ℕ) (xs 
 still_from left e n [] same = refl
 still_from left e n (x ∷ xs) same = λ i. same n x i ∷ still_from left e (n + 1) xs same i
 
--- an operation is put behind the others
+-- an operation is appended
 pub operate-on : {A : Type 0} (left : Option TxnId) (e : Event A) (t : TxnId) (object : ObjId) (op : Op) (xs : List HeldOp) → e ≡ Operate t object op → added xs t object op ≡ further_on left e xs
 operate-on {A} left e t object op xs is =
     ap (λ ys. ys ++ (record { ob = object; op = op; holder = t; fate = InProgress }) ∷ []) (still_from {A = A} left (Operate t object op) 1 xs (λ k x. still (is_open x.fate) x))
     ∙ ap (λ (f : Event A). further_on left f xs) (sym is)
 
--- a permit does nothing to them
+-- a permit has no effect on operations
 pub permit-on : {A : Type 0} (left : Option TxnId) (e : Event A) (t u : TxnId) (ob : ObjId) (xs : List HeldOp) → e ≡ Permit t u ob → xs ≡ further_on left e xs
 permit-on {A} left e t u ob xs is =
     still_from {A = A} left (Permit t u ob) 1 xs (λ k x. still (is_open x.fate) x) ∙ sym (append-nil (brought_from {A = A} left (Permit t u ob) 1 xs)) ∙ ap (λ (f : Event A). further_on left f xs) (sym is)
 
--- the other events do nothing to them
+-- the other events have no effect on them
 pub other-on : {A : Type 0} (left : Option TxnId) (e : Event A) (xs : List HeldOp) → ((s u : TxnId) (class : ClassId) (ops : List OpNo) → e ≡ Split s u class ops → ⊥) → ((s u : TxnId) → e ≡ Join s u → ⊥) →
     ((s u : TxnId) (ops : List OpNo) → e ≡ Delegate s u ops → ⊥) → ((t : TxnId) (object : ObjId) (op : Op) → e ≡ Operate t object op → ⊥) → ((s : TxnId) → e ≡ Commit s → ⊥) → ((s : TxnId) → e ≡ Abort s → ⊥) →
     xs ≡ further_on left e xs

@@ -1,4 +1,4 @@
--- What is listed of a history of a strict model without faults is its serial order.
+-- The list computed for a history of a strict model without faults is its serial order.
 use Rattle.std.proofs.Common.{◌≡◌, ℕ, length, ◌<◌, ◌==◌, Bool, true, false, cond, List, [], ◌∷◌, ◌++◌, get_or, map, filter, Option, Some, None, is_some, refl, sym, ap, ◌∙◌}
 use Rattle.std.specs.Prelude.{option_map}
 use Rattle.std.specs.List.{All, flat_map, filter_map, cons_option, AllByRecursion}
@@ -21,7 +21,7 @@ use Rattle.acta_axioms.specs.SerialItems.{item_of, serial_items, items_of}
 use Rattle.acta_axioms.proofs.SerialGrowth.{AllByRecursion-append, fates, stands_so, serial-history, order-places, strict-serial}
 use Rattle.acta_axioms.proofs.StrictItems.{returned-some, object-there}
 
--- what each operation of a history without faults has: it returned something, and its object is in the model
+-- in a history without faults each operation has a return, and its object is in the model
 record IsSound {A : Type 0} (m : Parts A) (o : Operation) : Type 0 where
   pub returned : is_some o.ret ≡ true
   pub object : o.object < length m.objects
@@ -55,7 +55,7 @@ all-groups : {X Y : Type 0} (P : Y → Type 0) (g : X → List Y) → ((x : X) �
 all-groups P g each [] = tt
 all-groups P g each (x ∷ xs) = AllByRecursion-append P (g x) (flat_map g xs) (each x) (all-groups P g each xs)
 
--- the operations of one that has committed, as they are listed
+-- the operations of a committed transaction, as items
 group-listed : {A : Type 0} (m : Parts A) (h : List (Kept A)) (f : ℕ → Fate) (t : ℕ) (os : List Operation) → AllByRecursion (λ o. standing m h o ≡ stands_so f o) os
     → filter_map (λ o. item_of (standing m h o).holder o) (filter (λ o. o.invoker == t) os) ≡ filter_map (item_of t) (filter (λ o. o.invoker == t) os)
 group-listed m h f t [] all = refl
@@ -67,7 +67,7 @@ group-listed m h f t (o ∷ os) all = of (o.invoker == t) refl (group-listed m h
     of true same later = λ i. cons_option (item_of ((ap (λ (s : Standing). s.holder) all.0 ∙ eqb-true o.invoker t same) i) o) (later i)
     of false same later = later
 
--- what is put together from the groups is the serial order
+-- the concatenated groups are the serial order
 pub listed-serial : {A : Type 0} (m : Parts A) (h : List (Kept A)) (groups : List (List SerialItem)) → is_strict m ≡ true → faults_in_places m h ≡ [] → ((t : ℕ) → get_or groups t [] ≡ items_of h t)
     → flat_map (λ t. get_or groups t []) (commit_order h) ≡ serial_items m h
 listed-serial m h groups strict none grouped =
@@ -77,7 +77,7 @@ listed-serial m h groups strict none grouped =
     ∙ sym (filter_map-flat_map (λ o. item_of (standing m h o).holder o) (λ t. filter (λ o. o.invoker == t) (operations h)) (commit_order h))
     ∙ ap (filter_map (λ o. item_of (standing m h o).holder o)) (sym (order-places m h strict none))
 
--- each returns what is recorded, and so what it returns where the order is replayed
+-- each has the return that is recorded, and so the one that replay gives
 one-ret : (t : ℕ) (o : Operation) (r : Option Ret) → o.ret ≡ r → is_some o.ret ≡ true → (rs : List (Option Ret)) (items : List SerialItem) → rs ≡ map (λ item. Some item.ret) items → o.ret ∷ rs ≡ map (λ item. Some item.ret) (cons_option (item_of t o) items)
 one-ret t o None is has rs items later = absurd (true≢false (sym has ∙ ap is_some is))
 one-ret t o (Some r) is has rs items later =

@@ -1,4 +1,4 @@
--- What is listed of a history becomes, with one item more, what is listed of the longer one.
+-- The groups of operations after one more item are those of the longer history.
 use Rattle.std.proofs.Common.{arith, ◌≡◌, ℕ, ◌+◌, ◌<◌, ◌==◌, Bool, true, false, cond, List, [], ◌∷◌, ◌++◌, length, get_or, take, filter, Option, Some, None, refl, sym, ap, ◌∙◌, subst}
 use Rattle.std.specs.Prelude.{if◌then◌else◌}
 use Rattle.std.specs.List.{filter_map, flat_map, cons_option}
@@ -29,7 +29,7 @@ groups-push : {A X : Type 0} (g : ℕ → List X) (h : List (Kept A)) (k : Kept 
 groups-push g h k =
     ap (flat_map g) (filter_map-append (λ q. committed_by q.event) h (k ∷ [])) ∙ flat_map-append g (commit_order h) (cons_option (committed_by k.event) [])
 
--- the group of the one that commits, if one does, is put behind those so far
+-- the group of the transaction that commits, if one does, is appended to those so far
 pub groups-next : {A X : Type 0} (g : ℕ → List X) (kept : List (Kept A)) (i : ℕ) (k : Kept A) (who : Option ℕ) (items new : List X) → i < length kept → k ≡ get_or kept i k → who ≡ committed_by k.event → items ≡ flat_map g (commit_order (take i kept)) → new ≡ items ++ flat_map g (cons_option who [])
     → new ≡ flat_map g (commit_order (take (i + 1) kept))
 groups-next g kept i k who items new within is commits so_far grown =
@@ -40,7 +40,7 @@ groups-next g kept i k who items new within is commits so_far grown =
 
 -- operations
 
--- of these items the operations are grouped so, by their transactions, and the next one has this number
+-- the operations of these items are grouped by transaction, and the next operation has this number
 pub record AreGrouped {A : Type 0} (h : List (Kept A)) (number : ℕ) (groups : List (List SerialItem)) : Type 0 where
   pub numbered : number ≡ number_after h
   pub so_far : (t : ℕ) → get_or groups t [] ≡ items_of h t
@@ -51,11 +51,11 @@ items-push h k t =
     ∙ ap (filter_map (item_of t)) (filter-append (λ o. o.invoker == t) (operations h) (added h k))
     ∙ filter_map-append (item_of t) (filter (λ o. o.invoker == t) (operations h)) (filter (λ o. o.invoker == t) (added h k))
 
--- the second groups are the first with one item more of u
+-- the second groups are the first with one more item of u
 abbrev ArePut : TxnId → SerialItem → List (List SerialItem) → List (List SerialItem) → Type 0
 ArePut u item groups grown = (t : ℕ) → get_or grown t [] ≡ get_or groups t [] ++ (if u.0 == t then item ∷ [] else [])
 
--- an operation that returns something
+-- an operation with a return
 grouped-item : {A : Type 0} (h : List (Kept A)) (u : TxnId) (ob : ObjId) (op : Op) (ret : Ret) (number : ℕ) (groups grown : List (List SerialItem)) → AreGrouped h number groups
     → ArePut u (record { number = record { 0 = number }; txn = u; ob = ob; op = op; ret = ret }) groups grown
     → AreGrouped (h ++ (record { event = Operate u ob op; ret = Some ret }) ∷ []) (number + 1) grown
@@ -78,7 +78,7 @@ grouped-item {A} h u ob op ret number groups grown before put =
     listed t true same = ap (λ n. (record { number = record { 0 = number_after h }; txn = record { 0 = n }; ob = ob; op = op; ret = ret }) ∷ []) (eqb-true u.0 t same)
     listed t false apart = refl
 
--- one that returns nothing
+-- an operation without a return
 grouped-silent : {A : Type 0} (h : List (Kept A)) (u : TxnId) (ob : ObjId) (op : Op) (number : ℕ) (groups : List (List SerialItem)) → AreGrouped h number groups → AreGrouped (h ++ (record { event = Operate u ob op; ret = None }) ∷ []) (number + 1) groups
 grouped-silent {A} h u ob op number groups before =
     record {
@@ -96,7 +96,7 @@ grouped-silent {A} h u ob op number groups before =
 and_none : (n : ℕ) → n + 0 ≡ n
 and_none n = omega arith
 
--- no operation
+-- an event that is no operation
 grouped-idle : {A : Type 0} (h : List (Kept A)) (k : Kept A) (number : ℕ) (groups : List (List SerialItem)) → is_operate k.event ≡ false → added h k ≡ [] → AreGrouped h number groups → AreGrouped (h ++ k ∷ []) number groups
 grouped-idle h k number groups never none before =
     record {

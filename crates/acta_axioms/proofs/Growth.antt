@@ -1,4 +1,4 @@
--- What each notion becomes when one kept item is put at the end of a history.
+-- Each notion when one kept item is appended to a history.
 use Rattle.std.proofs.Common.{subst, if◌then◌else◌, suc, ◌≡◌, ℕ, ◌+◌, ◌<◌, ◌≤◌, Bool, true, false, ◌||◌, cond, List, [], ◌∷◌, ◌++◌, length, map, drop, fold, Option, Some, None, option_map, refl, sym, ap, ◌∙◌, arith, is_some}
 use Rattle.std.specs.List.{find, filter_map, flat_map, cons_option, count_by, AllByRecursion}
 use Rattle.std.specs.Option.{option_or, option_and_then, option_map_or}
@@ -20,7 +20,7 @@ use Rattle.acta_axioms.specs.History.{Place, number, places_behind, places, firs
 use Rattle.acta_axioms.specs.Operations.{Operation, is_operate, number_after, operation_in, operation_at, operations, Standing, held_by, carried, standing}
 use Rattle.acta_axioms.specs.Faults.{faults_at, faults_in_places}
 
--- what is found passes the test, and has what all have
+-- an item that is found passes the test, and has any property that all items have
 pub found-passes : {X : Type 0} (test : X → Bool) (P : X → Type 0) (xs : List X) (x : X) → AllByRecursion P xs → find test xs ≡ Some x → (test x ≡ true) × P x
 found-passes test P [] x all is = absurd (none-some x is)
 found-passes test P (y ∷ ys) x all is = here (test y) refl is (found-passes test P ys x all.1)
@@ -52,7 +52,7 @@ length-places h = length-places_behind [] h
 pub first-push : {A : Type 0} (test : Event A → Bool) (h : List (Kept A)) (k : Kept A) → first test (h ++ k ∷ []) ≡ option_or (first test h) (cond (test k.event) (Some (at_end h k)) None)
 first-push test h k = ap (find (λ p. test p.kept.event)) (places-push h k) ∙ find-append (λ p. test p.kept.event) (places h) (at_end h k ∷ [])
 
--- what was there, or else the new place where the test is true
+-- the old place, or else the new one if the test is true
 abbrev pub or_here : {A : Type 0} → List (Kept A) → Option ℕ → Bool → Option ℕ
 or_here h old now = option_or old (cond now (Some (length h + 1)) None)
 
@@ -73,7 +73,7 @@ first_place-push test h k =
     ap (option_map number) (first-push test h k) ∙ option_map-or number (first test h) (cond (test k.event) (Some (at_end h k)) None)
     ∙ ap (option_or (option_map number (first test h))) (option_map-cond number (test k.event) (at_end h k))
 
--- each first place stays, or is the new one
+-- each first place is unchanged, or is the new one
 pub course-push : {A : Type 0} (h : List (Kept A)) (k : Kept A) (t : ℕ) → course (h ++ k ∷ []) t ≡ record {
   start = or_here h (course h t).start (starts t k.event);
   commit = or_here h (course h t).commit (commits t k.event);
@@ -102,7 +102,7 @@ first_start {A} h t = same (first (starts t) h)
     same None = refl
     same (Some p) = refl
 
--- one that has begun keeps its class
+-- a transaction that has begun keeps its class
 pub class_number-push : {A : Type 0} (h : List (Kept A)) (k : Kept A) (t : ℕ) → class_number (h ++ k ∷ []) t ≡ (if has_begun h t then class_number h t else if starts t k.event then class_named k.event else None)
 class_number-push {A} h k t =
     let by = λ (p : Place A). class_named p.kept.event in
@@ -114,7 +114,7 @@ class_number-push {A} h k t =
     at_cond true = refl
     at_cond false = refl
 
--- the class that an event names, where it is in the model
+-- the class that an event names, if it is in the model
 abbrev pub class_in : {A : Type 0} → Parts A → Event A → Option (Class A)
 class_in m e = option_and_then (class_at m) (class_named e)
 
@@ -154,7 +154,7 @@ number_after-push h k =
     fold-append (λ a q. a + cond (is_operate q.event) 1 0) 0 h (k ∷ []) in
     omega arith
 
--- an operation that stands in the history is followed by the new item
+-- an earlier operation is followed through the new item
 pub standing-push : {A : Type 0} (m : Parts A) (h : List (Kept A)) (k : Kept A) (o : Operation) → o.place ≤ length h → standing m (h ++ k ∷ []) o ≡ carried m o.number (standing m h o) (at_end h k)
 standing-push m h k o within =
     let fits : o.place ≤ length (places h) = omega (arith, length-places h) in
@@ -162,7 +162,7 @@ standing-push m h k o within =
     ∙ ap (fold (carried m o.number) (held_by o.invoker)) (drop-append-le o.place (places h) (at_end h k ∷ []) fits)
     ∙ fold-append (carried m o.number) (held_by o.invoker) (drop o.place (places h)) (at_end h k ∷ [])
 
--- one that stands at the end of it is held by its invoker
+-- an operation at the end is held by its invoker
 pub standing-new : {A : Type 0} (m : Parts A) (h : List (Kept A)) (o : Operation) → length h ≤ o.place → standing m h o ≡ held_by o.invoker
 standing-new m h o past =
     let beyond : length (places h) ≤ o.place = omega (arith, length-places h) in
@@ -182,7 +182,7 @@ places_within n before (k ∷ ks) fits =
     let grown = length_push before k in
     (omega arith, places_within n (before ++ k ∷ []) ks (omega arith))
 
--- an operation's place is the number of the place where it stands
+-- the place recorded in an operation is the place of its event
 pub operation_place : {A : Type 0} (p : Place A) (o : Operation) → operation_at p ≡ Some o → number p ≡ o.place
 operation_place {A} p o e = of_event p.kept.event e
   where
@@ -190,7 +190,7 @@ operation_place {A} p o e = of_event p.kept.event e
     of_event (Operate t object op) is = ap (λ q. option_map_or (λ (x : Operation). x.place) q (number p)) is
     of_event _ is = absurd (none-some _ is)
 
--- every operation stands within the history
+-- the place of every operation is within the history
 pub operations_within : {A : Type 0} (h : List (Kept A)) → AllByRecursion (λ o. o.place ≤ length h) (operations h)
 operations_within h = filter_map-within (λ p. number p ≤ length h) (λ o. o.place ≤ length h) operation_at (λ p o fits e. let at = operation_place p o e in omega arith) (places h) (places_within (length h) [] h (omega arith))
 
@@ -201,8 +201,8 @@ map-agree P f g same (x ∷ xs) all = λ i. same x all.0 i ∷ map-agree P f g s
 pub added-new : {A : Type 0} (m : Parts A) (h : List (Kept A)) (k : Kept A) → AllByRecursion (λ o. standing m (h ++ k ∷ []) o ≡ held_by o.invoker) (added h k)
 added-new m h k = cons_option-all _ (operation_at (at_end h k)) [] (λ o e. standing-new m (h ++ k ∷ []) o (let at = operation_place (at_end h k) o e in let grown = length_push h k in omega arith)) tt
 
--- what is said of each operation by how it stands: the old ones are followed by the item, a new one is
--- held by its invoker
+-- a property of all operations and standings: earlier ones are followed through the item, a new one is held by its
+-- invoker
 pub shown-push : {A X : Type 0} (show : Operation → Standing → X) (m : Parts A) (h : List (Kept A)) (k : Kept A) →
     map (λ o. show o (standing m (h ++ k ∷ []) o)) (operations (h ++ k ∷ []))
     ≡ map (λ o. show o (carried m o.number (standing m h o) (at_end h k))) (operations h) ++ map (λ o. show o (held_by o.invoker)) (added h k)
@@ -211,9 +211,9 @@ shown-push show m h k =
     ∙ map-append (λ o. show o (standing m (h ++ k ∷ []) o)) (operations h) (added h k)
     ∙ (λ i. map-agree _ _ _ (λ o within. ap (show o) (standing-push m h k o within)) (operations h) (operations_within h) i ++ map-agree _ _ _ (λ o e. ap (show o) e) (added h k) (added-new m h k) i)
 
--- ancestors: parents start earlier, so the line of one that has begun stays
+-- ancestors: parents start earlier, so the ancestors of a transaction that has begun stay the same
 
--- what stands before a place is a front of the history
+-- the items before a place are a prefix of the history
 places_fronts : {A : Type 0} (before h : List (Kept A)) → AllByRecursion (λ (p : Place A). (rest : List (Kept A)) × (before ++ h ≡ p.before ++ rest)) (places_behind before h)
 places_fronts {A} before [] = tt
 places_fronts {A} before (k ∷ ks) =
@@ -226,7 +226,7 @@ first-append test xs ys = ap (find (λ p. test p.kept.event)) (places_behind-app
 abbrev pub HasStartedBy : {A : Type 0} → List (Kept A) → ℕ → ℕ → Type 0
 HasStartedBy h t n = (i : ℕ) × ((course h t).start ≡ Some i) × (i ≤ n)
 
--- one that has begun started within the history
+-- a transaction that has begun started within the history
 pub started_within : {A : Type 0} (h : List (Kept A)) (t : ℕ) → has_begun h t ≡ true → HasStartedBy h t (length h)
 started_within {A} h t begun = of_first (first (starts t) h) refl begun
   where
@@ -234,7 +234,7 @@ started_within {A} h t begun = of_first (first (starts t) h) refl begun
     of_first None e is = absurd (false≢true is)
     of_first (Some p) e is = (number p, ap (option_map number) e, (found-passes (λ q. starts t q.kept.event) (λ q. number q ≤ length h) (places h) p (places_within (length h) [] h (omega arith)) e).1)
 
--- who began in a front of a history started there
+-- a transaction that began in a prefix of a history started there
 front_start : {A : Type 0} (xs ys : List (Kept A)) (t : ℕ) → has_begun xs t ≡ true → HasStartedBy (xs ++ ys) t (length xs)
 front_start {A} xs ys t begun =
     let at = started_within xs t begun in

@@ -91,7 +91,7 @@ model = record {
 abbrev pub granting : Parts (Unit {0})
 granting = record { objects = objects; classes = class true 488 ∷ class true 256 ∷ [] }
 
--- no class may form
+-- no class may form edges
 abbrev pub edgeless : Parts (Unit {0})
 edgeless = record { objects = objects; classes = class true 224 ∷ [] }
 

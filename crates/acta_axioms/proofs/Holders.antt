@@ -1,5 +1,5 @@
--- What holds of all who hold the operations against an operation holds of the edges that are formed on them; and
--- none of them is the one that operates.
+-- A property of all conflicting holders carries over to the edges formed on them, and no conflicting holder is the
+-- operation's own transaction.
 use Rattle.std.proofs.Common.{◌≡◌, ℕ, ◌==◌, Bool, true, false, ◌&&◌, not, cond, List, [], ◌∷◌, map, filter, fold, refl, ◌∙◌}
 use Rattle.std.specs.BTreeSet.{insert_key}
 use Rattle.std.specs.List.{list_all}
@@ -40,7 +40,7 @@ all-inserted p ms (n ∷ ns) all more =
     let both = and_parts (p n) (list_all p ns) more in
     all-inserted p (insert_key nat_cmp ms n) ns (all-insert p ms n all both.0) both.1
 
--- what holds of all of a list holds of all of it in ascending order
+-- a property of all numbers of a list holds after sorting
 pub all-ascending : (p : ℕ → Bool) (ns : List ℕ) → list_all p ns ≡ true → list_all p (ascending ns) ≡ true
 all-ascending p ns all = all-inserted p [] ns refl all
 
@@ -54,7 +54,7 @@ all-kinds p policy t u each (kind ∷ kinds) = of_test (forms policy kind) refl 
     of_test true is later = and_from (p (edge_on t u kind)) (list_all p (map (edge_on t u) (filter (forms policy) kinds))) (each kind is) later
     of_test false is later = later
 
--- what holds of each edge of a kind that is formed, on one for whom q holds, holds of all edges on such
+-- a property of each edge that is formed on transactions with property q
 pub all-upon : (p : Edge → Bool) (q : ℕ → Bool) (policy : Policy) (t : TxnId) (us : List ℕ) →
     ((kind : Dep) (u : ℕ) → forms policy kind ≡ true → q u ≡ true → p (edge_on t u kind) ≡ true) → list_all q us ≡ true → list_all p (edges_upon policy t us) ≡ true
 all-upon p q policy t [] each all = refl
@@ -63,7 +63,7 @@ all-upon p q policy t (u ∷ us) each all =
     list_all-append p (edges_on policy t u) (edges_upon policy t us)
     ∙ and_from (list_all p (edges_on policy t u)) (list_all p (edges_upon policy t us)) (all-kinds p policy t u (λ kind is. each kind u is both.0) all_kinds) (all-upon p q policy t us each both.1)
 
--- what passes a test has what the test says
+-- a filtered list has the properties that the test implies
 all-passing : {X : Type 0} (test q : X → Bool) → ((x : X) → test x ≡ true → q x ≡ true) → (xs : List X) → list_all q (filter test xs) ≡ true
 all-passing test q each [] = refl
 all-passing {X} test q each (x ∷ xs) = of_test (test x) refl (all-passing test q each xs)
@@ -72,7 +72,7 @@ all-passing {X} test q each (x ∷ xs) = of_test (test x) refl (all-passing test
     of_test true is later = and_from (q x) (list_all q (filter test xs)) (each x is) later
     of_test false is later = later
 
--- and fewer have what all have
+-- a filtered list keeps the properties of the whole list
 all-fewer : {X : Type 0} (test q : X → Bool) (xs : List X) → list_all q xs ≡ true → list_all q (filter test xs) ≡ true
 all-fewer test q [] all = refl
 all-fewer {X} test q (x ∷ xs) all =
@@ -83,7 +83,7 @@ all-fewer {X} test q (x ∷ xs) all =
     of_test true here later = and_from (q x) (list_all q (filter test xs)) here later
     of_test false here later = later
 
--- none of those who hold the operations against an operation of t is t
+-- t is not a conflicting holder for its own operation
 pub holders-others : {A : Type 0} (m : Parts A) (h : List (Kept A)) (t object : ℕ) (op : Op) → list_all (λ u. not (u == t)) (holders_against m h t object op) ≡ true
 holders-others m h t object op =
     all-ascending (λ u. not (u == t)) (map (λ (o : Operation). (standing m h o).holder) (conflicting m h t object op))

@@ -1,5 +1,5 @@
--- The operations of a history are numbered from 1 on, so those that pass a test have the numbers of
--- the items that pass it in any list that goes by operations.
+-- The operations of a history are numbered from 1, so those that pass a test have the numbers of the passing items in
+-- any list with one item for each operation.
 use Rattle.std.proofs.Common.{if◌then◌else◌, ◌≡◌, ℕ, zero, suc, ◌+◌, ◌<◌, Bool, true, false, ◌||◌, cond, List, [], ◌∷◌, ◌++◌, map, filter, slice_get, refl, sym, ap, ◌∙◌, arith, eq-eqb}
 use Rattle.std.specs.List.{filter_map, cons_option}
 use Rattle.std.specs.Option.{option_map_or}
@@ -47,7 +47,7 @@ pub numbers-shown : {A : Type 0} {X : Type 0} (show : Operation → X) (test : X
     map (λ o. o.number) (filter (λ o. test (show o)) (operations h)) ≡ numbers_where test (map show (operations h))
 numbers-shown show test h = numbers_behind show test [] h
 
--- the numbers of those that pass have a number where the one of that number passes
+-- a number is among those of the passing items exactly if the item with that number passes
 below : (test : HeldOp → Bool) (k n : ℕ) (items : List HeldOp) → n < k → has_number (numbers_from test k items) n ≡ false
 below test k n [] low = refl
 below test k n (i ∷ items) low = of (test i) (below test (k + 1) n items (omega (arith, low)))
@@ -81,7 +81,7 @@ has-held items t (suc n) =
     let same : suc n ≡ 1 + n = omega arith in
     ap (has_number (numbers_where (is_held t) items)) same ∙ from (is_held t) 1 n items
 
--- the numbers of what t holds in progress have a number where t holds the operation of that number
+-- a number is in the access set of t exactly if t holds the operation with that number
 pub holds_number : {A : Type 0} (m : Parts A) (h : List (Kept A)) (t n : ℕ) → holds (held_ops m h) t n ≡ has_number (map (λ o. o.number) (access_set m h t)) n
 holds_number m h t n =
     sym (has-held (held_ops m h) t n)

@@ -1,4 +1,4 @@
--- Permits, one item further.
+-- Permits after one more item.
 use Rattle.std.proofs.Common.{if◌then◌else◌, ◌≡◌, ℕ, Bool, true, false, ◌&&◌, ◌||◌, not, ◌==◌, List, [], ◌∷◌, ◌++◌, Option, Some, None, is_some, refl, sym, ap, ◌∙◌}
 use Rattle.std.specs.List.{list_any}
 use Rattle.std.proofs.lemmas.Bool.{and_parts, eqb-true, true≢false}
@@ -73,7 +73,7 @@ has_ended-push {A} h k t =
     of_event (Abort u) s = ended (u.0 == t) (when_aborted s) s (aborted_ends s) ∙ ap (λ b. is_ended_status s || b) (sym (or-false (u.0 == t)))
     of_event _ s = sym (or-false (is_ended_status s))
 
--- what the end of one leaves: whether some permit stands, whether either has ended before, and whether either ends
+-- permits after a transaction ends: whether there is one, and whether either transaction has ended before or ends now
 left_by : (p a b c d : Bool) → ((p || false) && not (a || c) && not (b || d)) ≡ (p && not a && not b && not c && not d)
 left_by true true b c d = refl
 left_by true false true true d = refl
@@ -82,7 +82,7 @@ left_by true false false true d = refl
 left_by true false false false d = refl
 left_by false a b c d = refl
 
--- what one more permit adds, unless it is late
+-- permits after one more permit, unless it is late
 with_one : (new p a b late : Bool) → (new ≡ true → late ≡ (a || b)) → ((p || new) && not (a || false) && not (b || false)) ≡ (if late then p && not a && not b else ((p && not a && not b) || new))
 with_one false true true b true lateness = refl
 with_one false true true b false lateness = refl
@@ -103,7 +103,7 @@ with_one true p a b late lateness =
     of false false true = refl
     of false false false = refl
 
--- the permits that can still count
+-- the permits that can still be in force
 pub left-push : {A : Type 0} (h : List (Kept A)) (k : Kept A) (s t object : ℕ) → is_left (h ++ k ∷ []) s t object ≡ permits_behind (is_late (has_ended h) k.event) k.event (is_left h) s t object
 unfolding is_left
 left-push {A} h k s t object =
@@ -138,7 +138,7 @@ left-push {A} h k s t object =
     of_event (Abort u) = (λ i. (p || false) && not (a || (or-false (u.0 == s) ∙ eqb-turned u.0 s) i) && not (b || (or-false (u.0 == t) ∙ eqb-turned u.0 t) i)) ∙ left_by p a b (s == u.0) (t == u.0)
     of_event _ = λ i. or-false p i && not (or-false a i) && not (or-false b i)
 
--- those that count are those of which both have begun
+-- those in force are those both of whose transactions have begun
 pub left-counts : {A : Type 0} (h : List (Kept A)) (s t object : ℕ) → (has_begun h s && has_begun h t && is_left h s t object) ≡ is_permitted h s t object
 unfolding is_left is_permitted
 left-counts h s t object = of (has_begun h s) (has_begun h t) (has_permitted h s t object) (has_ended h s) (has_ended h t)
@@ -154,12 +154,12 @@ left-counts h s t object = of (has_begun h s) (has_begun h t) (has_permitted h s
     of true false p false b = refl
     of false y p a b = refl
 
--- nothing is permitted where nothing has been
+-- there are no permits at the start
 pub none-left : (A : Type 0) (s t object : ℕ) → none_permitted s t object ≡ is_left {A = A} [] s t object
 unfolding is_left
 none-left A s t object = refl
 
--- what nobody has permitted counts for nothing
+-- without a permit event there is no permit in force
 pub unpermitted-counts : {A : Type 0} (h : List (Kept A)) (s t object : ℕ) → has_permitted h s t object ≡ false → is_permitted h s t object ≡ false
 unfolding is_permitted
 unpermitted-counts h s t object none = ap (λ b. is_in_progress h s && is_in_progress h t && b) none ∙ and-false (is_in_progress h s && is_in_progress h t)
@@ -168,7 +168,7 @@ unpermitted-counts h s t object none = ap (λ b. is_in_progress h s && is_in_pro
     and-false true = refl
     and-false false = refl
 
--- permits that count are those that can still count, where those that they name have begun
+-- permits in force are those that can still be, if both transactions have begun
 counts-left : {A : Type 0} (h : List (Kept A)) (s t object : ℕ) → (has_permitted h s t object ≡ true → (has_begun h s ≡ true) × (has_begun h t ≡ true)) → is_permitted h s t object ≡ is_left h s t object
 unfolding is_left
 counts-left h s t object begun = sym (left-counts h s t object) ∙ of (has_permitted h s t object) begun
@@ -185,7 +185,7 @@ counts-left h s t object begun = sym (left-counts h s t object) ∙ of (has_perm
     of true both = λ i. (both refl).0 i && (both refl).1 i && rest true
     of false both = nothing (has_begun h s) (has_begun h t)
 
--- so permits that count are followed as those that can still count
+-- so permits in force are updated like those that can still be
 pub permitted-push : {A : Type 0} (h : List (Kept A)) (k : Kept A) (p : Permitted) → ((s t object : ℕ) → p s t object ≡ is_permitted h s t object)
     → ((s t object : ℕ) → has_permitted h s t object ≡ true → (has_begun h s ≡ true) × (has_begun h t ≡ true))
     → ((s t object : ℕ) → has_permitted (h ++ k ∷ []) s t object ≡ true → (has_begun (h ++ k ∷ []) s ≡ true) × (has_begun (h ++ k ∷ []) t ≡ true))
@@ -202,7 +202,7 @@ begun_stays h k t is = ap (λ (c : Course). is_some c.start) (course-push h k t)
     of (Some n) e = refl
     of None e = absurd (true≢false (sym e))
 
--- whoever is named by a permit has begun, with one item more
+-- both transactions of every permit have begun, after one more item
 pub permits_begun-push : {A : Type 0} (h : List (Kept A)) (k : Kept A) → ((s t object : ℕ) → permits s t object k.event ≡ true → (has_begun h s ≡ true) × (has_begun h t ≡ true))
     → ((s t object : ℕ) → has_permitted h s t object ≡ true → (has_begun h s ≡ true) × (has_begun h t ≡ true))
     → (s t object : ℕ) → has_permitted (h ++ k ∷ []) s t object ≡ true → (has_begun (h ++ k ∷ []) s ≡ true) × (has_begun (h ++ k ∷ []) t ≡ true)
@@ -217,12 +217,12 @@ permits_begun-push h k new begun s t object is =
     of true old here e = later (old refl)
     of false old here e = later (here e)
 
--- nothing counts where nothing has been permitted
+-- no permit is in force in the empty history
 pub none-permitted : (A : Type 0) (s t object : ℕ) → none_permitted s t object ≡ is_permitted {A = A} [] s t object
 unfolding is_permitted
 none-permitted A s t object = refl
 
--- of those whose permits can still count, those count whose permits do
+-- of the transactions whose permits can still be in force, those whose permits are
 pub all-permitters : {A : Type 0} (h : List (Kept A)) (u t object : ℕ) (left : List TxnId) → list_any (λ s. s.0 == u) left ≡ is_left h u t object
     → list_any (λ s. (s.0 == u) && is_permitted h s.0 t object) left ≡ is_permitted h u t object
 all-permitters h u t object left are =

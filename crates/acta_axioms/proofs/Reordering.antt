@@ -1,5 +1,5 @@
--- Operations that commute, two by two, may be put in another order: replayed so they end in the same state, and where
--- each returned what is recorded, each does again.
+-- Operations that commute pairwise may be reordered: replay ends in the same state, and each still has the return that
+-- is recorded.
 use Rattle.std.proofs.Common.{◌≡◌, ℕ, ◌==◌, Bool, true, false, ◌&&◌, ◌||◌, not, cond, if◌then◌else◌, List, [], ◌∷◌, ◌++◌, map, filter, fold, refl, sym, ap, ◌∙◌, subst, eq-eqb}
 use Rattle.std.specs.List.{list_all, flat_map, scan}
 use Rattle.std.proofs.lemmas.Bool.{true≢false, and_parts, and_from, eqb-true}
@@ -37,7 +37,7 @@ on_test false InProgress on = refl
 on_test false Committed on = refl
 on_test false Aborted on = refl
 
--- one more transaction is looked at
+-- one more transaction is considered
 wider_t : (b k : Bool) → ((b || k) && b) ≡ b
 wider_t true k = refl
 wider_t false true = refl
@@ -72,18 +72,18 @@ filter-all (x ∷ xs) = ap (λ ys. x ∷ ys) (filter-all xs)
 eqb-same : (t : ℕ) → (t == t) ≡ true
 eqb-same t = eq-eqb t t refl
 
--- another fate of one transaction
+-- the fates, with that of one transaction changed
 abbrev pub ended_so : (ℕ → Fate) → ℕ → Fate → ℕ → Fate
 ended_so fate t end u = if u == t then end else fate u
 
 module _ {S O R : Type 0} (next : S → O → S) (out : S → O → R) (recorded : O → R) (Good : S → Type 0) (good : (s : S) (o : O) → Good s → Good (next s o)) (by : O → ℕ) (free : O → O → Bool)
     (commutes : (p q : O) → free p q ≡ true → (s : S) → Good s → Commutes next out s p q) where
-  -- each returns what is recorded, from this state
+  -- each has the return that is recorded, from this state
   abbrev pub Returns : S → List O → Type 0
   Returns s [] = Unit {0}
   Returns s (o ∷ os) = (out s o ≡ recorded o) × Returns (next s o) os
 
-  -- one list may stand in the place of another
+  -- one list may replace another
   abbrev pub Serves : List O → List O → Type 0
   Serves xs ys = (s : S) → Good s → (fold next s xs ≡ fold next s ys) × (Returns s xs → Returns s ys)
 
@@ -102,13 +102,13 @@ module _ {S O R : Type 0} (next : S → O → S) (out : S → O → R) (recorded
   serves-after [] xs ys p = p
   serves-after (x ∷ front) xs ys p = serves-behind x (front ++ xs) (front ++ ys) (serves-after front xs ys p)
 
-  -- two that commute
+  -- two operations that commute
   serves-swapped : (x y : O) (xs : List O) → free x y ≡ true → Serves (x ∷ y ∷ xs) (y ∷ x ∷ xs)
   serves-swapped x y xs f s g =
       let c = commutes x y f s g in
       (ap (λ z. fold next z xs) c.state, λ r. (sym c.second ∙ r.1.0, (sym c.first ∙ r.0, subst (λ z. Returns z xs) c.state r.1.1)))
 
-  -- one that commutes with each of some is moved behind them
+  -- an operation that commutes with each of a list is moved after it
   serves-past : (x : O) (ys zs : List O) → list_all (free x) ys ≡ true → Serves (x ∷ (ys ++ zs)) (ys ++ x ∷ zs)
   serves-past x [] zs all = serves-same (x ∷ zs)
   serves-past x (y ∷ ys) zs all =
@@ -117,16 +117,16 @@ module _ {S O R : Type 0} (next : S → O → S) (out : S → O → R) (recorded
       (serves-swapped x y (ys ++ zs) both.0)
       (serves-behind y (x ∷ (ys ++ zs)) (ys ++ x ∷ zs) (serves-past x ys zs both.1))
 
-  -- whether two are of one transaction, or commute
+  -- whether two operations are of one transaction, or commute
   abbrev pub is_apart : O → O → Bool
   is_apart x y = (by x == by y) || free x y
 
-  -- whether each two are, in this order
+  -- whether every pair is, in this order
   abbrev pub are_apart : List O → Bool
   are_apart [] = true
   are_apart (x ∷ xs) = list_all (is_apart x) xs && are_apart xs
 
-  -- those of other transactions commute with one that is none of them
+  -- an operation of none of these transactions commutes with theirs
   free-others : (test : ℕ → Bool) (x : O) (xs : List O) → test (by x) ≡ false → list_all (is_apart x) xs ≡ true → list_all (free x) (filter (λ o. test (by o)) xs) ≡ true
   free-others test x [] none all = refl
   free-others test x (y ∷ xs) none all =
@@ -141,7 +141,7 @@ module _ {S O R : Type 0} (next : S → O → S) (out : S → O → R) (recorded
       of true is e later = and_from (free x y) _ (of_one (by x == by y) refl is e) later
       of false is e later = later
 
-  -- the operations of some transactions may be put in front of the others
+  -- the operations of some transactions may be moved before the others
   pub serves-parted : (test : ℕ → Bool) (xs : List O) → are_apart xs ≡ true → Serves xs (filter (λ o. test (by o)) xs ++ filter (λ o. not (test (by o))) xs)
   serves-parted test [] all = serves-same []
   serves-parted test (x ∷ xs) all =
@@ -163,7 +163,7 @@ module _ {S O R : Type 0} (next : S → O → S) (out : S → O → R) (recorded
   returns-push s [] o r here = (here, tt)
   returns-push s (x ∷ xs) o r here = (r.0, returns-push (next s x) xs o r.1 here)
 
-  -- what is recorded, where each returns it
+  -- the returns by replay are those recorded
   pub returns-scan : (s : S) (xs : List O) → Returns s xs → scan next out s xs ≡ map recorded xs
   returns-scan s [] r = refl
   returns-scan s (x ∷ xs) r = λ i. r.0 i ∷ returns-scan (next s x) xs r.1 i
@@ -195,34 +195,33 @@ module _ {S O R : Type 0} (next : S → O → S) (out : S → O → R) (recorded
   abbrev pub in_progress : List O → (ℕ → Fate) → List O
   in_progress os fate = filter (λ o. is_open (fate (by o))) os
 
-  -- whether an operation is committed, or in progress and of one of these transactions
+  -- whether an operation is committed, or is in progress and belongs to one of these transactions
   abbrev pub counts : (ℕ → Fate) → (ℕ → Bool) → O → Bool
   counts fate keep o = is_committed (fate (by o)) || (is_open (fate (by o)) && keep (by o))
 
-  -- of operations that stand in this order, where each transaction has one fate: the committed ones, in groups in the
-  -- order of the commits, and those in progress behind them return what is recorded; whichever transactions in
-  -- progress are left out, they lead where they do in their own order; those in progress of different transactions
-  -- commute
+  -- for operations in this order, with one fate for each transaction: the committed ones, grouped in the order of
+  -- commits, followed by those in progress, have the returns recorded; leaving out any transactions in progress, they
+  -- lead to the same state as in their own order; and operations in progress of different transactions commute
   pub record IsSerial (start : S) (os : List O) (fate : ℕ → Fate) (order : List ℕ) : Type 0 where
     pub leads : (keep : ℕ → Bool) → fold next start (filter (counts fate keep) os) ≡ fold next start (in_groups os order ++ filter (λ o. keep (by o)) (in_progress os fate))
     pub returns : Returns start (in_groups os order ++ in_progress os fate)
     pub apart : are_apart (in_progress os fate) ≡ true
     pub ended : list_all (λ t. is_committed (fate t)) order ≡ true
 
-  -- nothing is serial
+  -- the empty list is serial
   pub serial-none : (start : S) (fate : ℕ → Fate) → IsSerial start [] fate []
   serial-none start fate = record { leads = λ keep. refl; returns = tt; apart = refl; ended = refl }
 
   open_there : (fate : ℕ → Fate) (t : ℕ) → fate t ≡ InProgress → (u : ℕ) → (u == t) ≡ true → fate u ≡ InProgress
   open_there fate t on u same = ap fate (eqb-true u t same) ∙ on
 
-  -- those of t are no longer in progress
+  -- t's operations are no longer in progress
   in_progress-ended : (os : List O) (fate : ℕ → Fate) (t : ℕ) (end : Fate) → is_open end ≡ false → in_progress os (ended_so fate t end) ≡ filter (λ o. not (by o == t)) (in_progress os fate)
   in_progress-ended os fate t end over =
       filter_agree (λ o. is_open (ended_so fate t end (by o))) (λ o. is_open (fate (by o)) && not (by o == t)) (λ o. over_there (by o == t) (fate (by o)) end over) os
       ∙ filter-both (λ o. is_open (fate (by o))) (λ o. not (by o == t)) os
 
-  -- all operations of one that is in progress are
+  -- all operations of a transaction in progress are in progress
   group-open : (os : List O) (fate : ℕ → Fate) (t : ℕ) → fate t ≡ InProgress → filter (λ o. by o == t) (in_progress os fate) ≡ filter (λ o. by o == t) os
   group-open os fate t on =
       sym (filter-both (λ o. is_open (fate (by o))) (λ o. by o == t) os)
@@ -242,7 +241,7 @@ module _ {S O R : Type 0} (next : S → O → S) (out : S → O → R) (recorded
       of true same is = absurd (true≢false (sym is ∙ ap is_committed (open_there fate t on u same)))
       of false same is = is
 
-  -- a commit of one in progress
+  -- a commit of a transaction in progress
   pub serial-commit : (start : S) → Good start → (os : List O) (fate : ℕ → Fate) (order : List ℕ) (t : ℕ) → fate t ≡ InProgress → IsSerial start os fate order → IsSerial start os (ended_so fate t Committed) (order ++ t ∷ [])
   serial-commit start g os fate order t on serial =
       record {
@@ -290,7 +289,7 @@ module _ {S O R : Type 0} (next : S → O → S) (out : S → O → R) (recorded
       now : in_progress os (ended_so fate t Committed) ≡ filter (λ o. not (by o == t)) (in_progress os fate)
       now = in_progress-ended os fate t Committed refl
 
-  -- an abort of one in progress
+  -- an abort of a transaction in progress
   pub serial-abort : (start : S) → Good start → (os : List O) (fate : ℕ → Fate) (order : List ℕ) (t : ℕ) → fate t ≡ InProgress → IsSerial start os fate order → IsSerial start os (ended_so fate t Aborted) order
   serial-abort start g os fate order t on serial =
       record {
@@ -321,7 +320,7 @@ module _ {S O R : Type 0} (next : S → O → S) (out : S → O → R) (recorded
       now : in_progress os (ended_so fate t Aborted) ≡ filter (λ o. not (by o == t)) (in_progress os fate)
       now = in_progress-ended os fate t Aborted refl
 
-  -- an operation of one in progress is in no group
+  -- an operation of a transaction in progress is in no group
   groups-open : (os : List O) (fate : ℕ → Fate) (o : O) → fate (by o) ≡ InProgress → (order : List ℕ) → list_all (λ t. is_committed (fate t)) order ≡ true → in_groups (os ++ o ∷ []) order ≡ in_groups os order
   groups-open os fate o on [] all = refl
   groups-open os fate o on (t ∷ order) all =
@@ -342,7 +341,7 @@ module _ {S O R : Type 0} (next : S → O → S) (out : S → O → R) (recorded
   abbrev pub is_live : (ℕ → Fate) → O → Bool
   is_live fate o = not (is_aborted (fate (by o)))
 
-  -- an operation of one in progress, which returns what is due, and commutes with those in progress of others
+  -- an operation of a transaction in progress that has the return due and commutes with those in progress of others
   pub serial-operate : (start : S) (os : List O) (fate : ℕ → Fate) (order : List ℕ) (o : O) → fate (by o) ≡ InProgress → out (fold next start (filter (is_live fate) os)) o ≡ recorded o →
       list_all (λ x. is_apart x o) (in_progress os fate) ≡ true → IsSerial start os fate order → IsSerial start (os ++ o ∷ []) fate order
   serial-operate start os fate order o on due apart serial =

@@ -1,5 +1,5 @@
--- The values of all objects, as operations leave them: those that do not conflict commute from each values that a model's
--- objects can have, and the values after operations are those that places name.
+-- The values of all objects after operations: operations that do not conflict commute from all values that a model's
+-- objects can have, and the values are those defined by places.
 use Rattle.std.proofs.Common.{◌≡◌, ℕ, ◌==◌, Bool, true, false, ◌&&◌, not, List, [], ◌∷◌, fold, Option, Some, None, refl, sym, ap, ◌∙◌, subst}
 use Rattle.std.specs.Prelude.{if◌then◌else◌, option_map}
 use Rattle.std.specs.List.{filter_map, cons_option}
@@ -25,13 +25,13 @@ use Rattle.acta_axioms.specs.Values.{asked_of, value, return_due}
 use Rattle.acta_axioms.proofs.ValueGrowth.{eqb-turned}
 use Rattle.acta_axioms.specs.Serial.{Values, first_values, values_after, returned_from}
 
--- there is one exactly where there is an object
+-- there is a value exactly if there is an object
 abbrev pub Fits : {A : Type 0} → Option Kind → Option (ObjectState A) → Type 0
 Fits None None = Unit {0}
 Fits (Some kind) (Some s) = IsOf kind s
 Fits _ _ = ⊥
 
--- so of all objects
+-- the same for all objects
 abbrev pub AreValues : {A : Type 0} → Parts A → Values A → Type 0
 AreValues m values = (object : ℕ) → Fits (kind_at m object) (values object)
 
@@ -41,7 +41,7 @@ fits-step None (Some s) op ok = ok
 fits-step (Some kind) None op ok = ok
 fits-step (Some kind) (Some s) op ok = is_of-step kind s op ok
 
--- the first values are such values, and after an operation they are again
+-- the initial values are such values, and so are those after an operation
 pub values-first : {A : Type 0} (m : Parts A) → AreValues m (first_values m)
 values-first {A} m object = of (kind_at m object)
   where
@@ -152,7 +152,7 @@ asked-there {A} object kind s (o ∷ os) ok =
     of true false fits stays goes = ap (λ x. fold (after_at object) (Some x) os) (idle kind s o.op ok fits) ∙ stays
     of false b fits stays goes = stays
 
--- the values after what is not aborted are those by places, and so is what is due
+-- the values after the operations that are not aborted are those by places, and so are the returns due
 pub due-replayed : {A : Type 0} (m : Parts A) (h : List (Kept A)) (o : Operation) → returned_from (fold values_after (first_values m) (view_set m h)) o ≡ return_due m h o.object o.op
 due-replayed {A} m h o =
     ap (option_map (λ s. returned s o.op)) (at-object (view_set m h) (first_values m) o.object) ∙ of (kind_at m o.object)

@@ -1,4 +1,4 @@
--- What is found among the operations that a walk keeps is what the definitions name.
+-- The searches of a walk find what the definitions say.
 use Rattle.std.proofs.Common.{if◌then◌else◌, ◌≡◌, ℕ, suc, ◌+◌, ◌-◌, ◌<◌, ◌==◌, Bool, true, false, ◌&&◌, ◌||◌, not, List, [], ◌∷◌, map, filter, Option, Some, None, refl, sym, ap, ◌∙◌, arith}
 use Rattle.std.specs.Prelude.{slice_get}
 use Rattle.std.proofs.lemmas.Option.{slice_get-map}
@@ -54,13 +54,13 @@ use Rattle.acta_axioms.proofs.Conflicts.{do_conflict-on, suits-conflicts, ill-co
 use Rattle.acta_axioms.proofs.Numbers.{numbers-shown}
 use Rattle.acta_axioms.proofs.ValueGrowth.{filter-both}
 
--- the line of ancestors, walked one by one: what is left of it is the next of it, and what is left behind that one
+-- walking the chain of ancestors: each step leaves the rest of the chain
 pub line-next : (n i : ℕ) (parent : ℕ → Option TxnId) (p : TxnId) (here next : Option TxnId) → i < n → here ≡ Some p → next ≡ parent p.0 → ancestors_from (n - i) parent here ≡ p ∷ ancestors_from (n - (i + 1)) parent next
 line-next n i parent p here next within is follows =
     let more : n - i ≡ suc (n - (i + 1)) = omega (arith, within) in
     (λ x. ancestors_from (more x) parent (is x)) ∙ ap (λ o. p ∷ ancestors_from (n - (i + 1)) parent o) (sym follows)
 
--- one is in the set where it is exempt
+-- a transaction is in the set of exempt ones exactly if it is exempt
 by-number : (ts : List TxnId) (u : ℕ) → list_any (λ n. n == u) (map (λ t. t.0) ts) ≡ list_any (λ t. t.0 == u) ts
 by-number [] u = refl
 by-number (t ∷ ts) u = ap (λ b. (t.0 == u) || b) (by-number ts u)
@@ -72,7 +72,7 @@ in-exempt m h t u = in-ascending u (map (λ x. x.0) (exempt m h t)) ∙ by-numbe
     of_test true = refl
     of_test false = refl
 
--- those who are exempt on an object: ancestors, and those who permit it
+-- the exempt transactions on an object: ancestors, and those that permit
 pub exempt-on : {A : Type 0} (m : Parts A) (h : List (Kept A)) (t object : ℕ) (base keys : List ℕ) (found : List TxnId) → base ≡ exempt_numbers m h t → ((u : ℕ) → list_any (λ s. s.0 == u) found ≡ is_permitted h u t object)
     → ((u : ℕ) → list_any (λ k. k == u) keys ≡ (list_any (λ k. k == u) base || list_any (λ s. s.0 == u) found)) → AreExempt m h t object keys
 exempt-on m h t object base keys found ancestors_are permit all u =
@@ -82,7 +82,7 @@ none_and : (a : Bool) → (a && false) ≡ false
 none_and true = refl
 none_and false = refl
 
--- an operation conflicts as it is kept where it does by the definitions
+-- a kept operation conflicts exactly if it does by the definitions
 against-tells : {A : Type 0} (m : Parts A) (h : List (Kept A)) (t object : ℕ) (op : Op) (o : Operation) (s : Standing) →
     is_against m h t object op (held_op o s) ≡ (is_of_others m h t o.object s && ((o.object == object) && do_conflict m object o.op op))
 against-tells m h t object op o s =
@@ -103,7 +103,7 @@ moved_on true false b false c = refl
 moved_on false a b true c = refl
 moved_on false a b false c = refl
 
--- in the words of the table
+-- the same in the table's terms
 against_but : {A : Type 0} (m : Parts A) (h : List (Kept A)) (t object : ℕ) (op : Op) (x : HeldOp) → is_well_formed m object op ≡ true → is_against_but t (is_exempt m h t object) object op x ≡ is_against m h t object op x
 against_but m h t object op x is =
     ap (λ b. is_open x.fate && not (x.holder.0 == t) && not (is_exempt m h t object x.holder.0) && (x.ob.0 == object) && b) (suits-conflicts m object x.op op is)
@@ -139,7 +139,7 @@ any-tells m h t object op keys xs same = reported (is_well_formed m object op) (
     reported true is ill = is refl
     reported false is ill = ill refl
 
--- where no operation of another conflicts, none is against
+-- if no operation of another conflicts, none of the conflict set does
 pub none-conflicted : {A : Type 0} (m : Parts A) (h : List (Kept A)) (t object : ℕ) (op : Op) (xs : List HeldOp) → (is_well_formed m object op && list_any (is_against_but t (is_exempt m h t object) object op) xs) ≡ false → list_any (is_against m h t object op) xs ≡ false
 none-conflicted m h t object op xs none = reported (is_well_formed m object op) refl none
   where
@@ -147,7 +147,7 @@ none-conflicted m h t object op xs none = reported (is_well_formed m object op) 
     reported true is e = sym (ap (λ (test : HeldOp → Bool). list_any test xs) (λ i x. against_but m h t object op x is i)) ∙ e
     reported false is e = sym (any-ill m h t object op xs is)
 
--- where none is against, none is found
+-- if none passes, none is found
 none_numbered : (test : HeldOp → Bool) (n : ℕ) (xs : List HeldOp) → list_any test xs ≡ false → [] ≡ numbers_from test n xs
 none_numbered test n [] none = refl
 none_numbered test n (x ∷ xs) none = of_test (test x) none (none_numbered test (n + 1) xs)
@@ -156,7 +156,7 @@ none_numbered test n (x ∷ xs) none = of_test (test x) none (none_numbered test
     of_test true is later = absurd (false≢true (sym is))
     of_test false is later = later is
 
--- who holds those that conflict
+-- the conflicting holders
 pub holders-found : {A : Type 0} (m : Parts A) (h : List (Kept A)) (t object : ℕ) (op : Op) → ascending (map (λ x. x.holder.0) (filter (is_against m h t object op) (held_ops m h))) ≡ holders_against m h t object op
 holders-found m h t object op =
     ap ascending (sym (holders-shown m h t object op (λ o. held_op o (standing m h o)) (is_against m h t object op) (λ x. x.holder.0) (λ o. against-tells m h t object op o (standing m h o)) (λ o. refl)))
@@ -184,7 +184,7 @@ holders-tell m h t object op keys same = reported (is_well_formed m object op) (
     reported true is ill = is refl
     reported false is ill = ill refl
 
--- the numbers of those that pass a test
+-- the numbers of the operations that pass a test
 found : {A : Type 0} (m : Parts A) (h : List (Kept A)) (test : HeldOp → Bool) → numbers_of test (held_ops m h) ≡ op_numbers (filter (λ o. test (held_op o (standing m h o))) (operations h))
 found m h test =
     let made : ℕ → OpNo = λ n. record { 0 = n } in
@@ -224,7 +224,7 @@ value-found {A} m h items object kind same =
     ap (λ xs. state_after {A = A} (first_state kind) (live_ops kind xs object)) same
     ∙ sym (value-shown m h object kind (λ o. held_op o (standing m h o)) (live_on kind object) (λ o. pick_live (o.object == object) (standing m h o).fate (suits kind o.op) o.op))
 
--- what is read of a kept value is read of the value of the object, if there is one
+-- a property of a kept value is that of the object's value, if there is an object
 pub value-read : {A R : Type 0} (m : Parts A) (h : List (Kept A)) (s : Stored) (object : ℕ) (f : ObjectState A → R) → s.kinds ≡ kinds_of m.objects → s.items ≡ held_ops m h →
     option_map (λ kind. f (state_after (first_state kind) (live_ops kind s.items object))) (slice_get s.kinds object) ≡ option_map (λ kind. f (value m h object kind)) (kind_at m object)
 value-read {A} {R} m h s object f kinds items =
@@ -236,13 +236,13 @@ value-read {A} {R} m h s object f kinds items =
     of None = refl
     of (Some kind) = ap (λ x. Some (f x)) (value-found m h s.items object kind items)
 
--- edges of operations: where the class refuses none is formed
+-- edges of operations: a class that refuses forms none
 pub upon-refuses : (policy : Policy) (t : TxnId) (us : List ℕ) → refuses policy ≡ true → edges_upon policy t us ≡ []
 upon-refuses Refuse t [] is = refl
 upon-refuses Refuse t (u ∷ us) is = upon-refuses Refuse t us is
 upon-refuses (Depend kinds) t us is = absurd (false≢true is)
 
--- what an operation forms by the class of its transaction
+-- the edges that an operation forms under its transaction's class
 abbrev formed_under : {A : Type 0} → Parts A → List (Kept A) → TxnId → ObjId → Op → Option (Class A) → List Edge
 formed_under m h t object op class = option_map_or (λ k. edges_upon k.policy t (holders_against m h t.0 object.0 op)) class []
 

@@ -50,17 +50,17 @@ fate_of _ = InProgress
 abbrev pub fates : {A : Type 0} → List (Kept A) → ℕ → Fate
 fates h t = fate_of (status_at h t)
 
--- held by its invoker, with the fate of that one
+-- held by its invoker, with that transaction's fate
 abbrev pub stands_so : (ℕ → Fate) → Operation → Standing
 stands_so f o = record { holder = o.invoker; fate = f o.invoker }
 
--- operations on a model's objects are serial, where each transaction has this fate and these commit, in order
+-- operations on a model's objects are serial, given each transaction's fate and the commits in order
 abbrev pub AreSerial : {A : Type 0} → Parts A → List Operation → (ℕ → Fate) → List ℕ → Type 0
 AreSerial m os f order =
     IsSerial values_after returned_from (λ o. o.ret) (AreValues m) (values-step m) (λ o. o.invoker) (is_free m) (commute-values m) (first_values m) os f order
 
--- what holds of a history so far, where the operations of each transaction have this fate: they are serial; each is
--- held by its invoker; whoever has begun has a strict class, and nobody a parent
+-- invariant of a history, given each transaction's fate: its operations are serial, each is held by its invoker, every
+-- transaction that has begun has a strict class, and none has a parent
 pub record IsSerialSoFar {A : Type 0} (m : Parts A) (h : List (Kept A)) (f : ℕ → Fate) : Type 0 where
   pub serial : AreSerial m (operations h) f (commit_order h)
   pub stand : AllByRecursion (λ o. standing m h o ≡ stands_so f o) (operations h)
@@ -153,7 +153,7 @@ settles true Aborted end v x on e = let no = on refl in cc
 order-push : {A : Type 0} (h : List (Kept A)) (k : Kept A) → commit_order (h ++ k ∷ []) ≡ commit_order h ++ cons_option (committed_by k.event) []
 order-push h k = filter_map-append (λ q. committed_by q.event) h (k ∷ [])
 
--- an event that ends none, and is no operation
+-- an event that ends no transaction and is no operation
 step-idle : {A : Type 0} (m : Parts A) (h : List (Kept A)) (k : Kept A) → is_strict m ≡ true → ill_formed m k.event ≡ [] → added h k ≡ [] → committed_by k.event ≡ None → ((o v : ℕ) → followed m h o v k.event ≡ held_by v)
     → ((t : ℕ) → fates (h ++ k ∷ []) t ≡ fates h t) → spawner h k.event ≡ None → ((u t object : ℕ) → permits u t object k.event ≡ false) → IsSerialSoFar m h (fates h) → IsSerialSoFar m (h ++ k ∷ []) (fates (h ++ k ∷ []))
 step-idle {A} m h k strict formed no_operation no_commit idle same no_spawn no_permits so_far =
@@ -170,7 +170,7 @@ step-idle {A} m h k strict formed no_operation no_commit idle same no_spawn no_p
       unpermitted = unpermitted-push h k no_permits so_far.unpermitted;
     })
 
--- an event that ends one in progress
+-- an event that ends a transaction in progress
 step-ended : {A : Type 0} (m : Parts A) (h : List (Kept A)) (k : Kept A) (t : ℕ) (end : Fate) → is_strict m ≡ true → ill_formed m k.event ≡ [] → fates h t ≡ InProgress → added h k ≡ []
     → ((o v : ℕ) → followed m h o v k.event ≡ (if v == t then ended_by v end else held_by v)) → ((u : ℕ) → fates (h ++ k ∷ []) u ≡ ended_so (fates h) t end u) → spawner h k.event ≡ None → ((u v object : ℕ) → permits u v object k.event ≡ false)
     → AreSerial m (operations h) (ended_so (fates h) t end) (commit_order (h ++ k ∷ [])) → IsSerialSoFar m h (fates h) → IsSerialSoFar m (h ++ k ∷ []) (fates (h ++ k ∷ []))
@@ -188,7 +188,7 @@ step-ended {A} m h k t end strict formed on no_operation ends so no_spawn no_per
       unpermitted = unpermitted-push h k no_permits so_far.unpermitted;
     })
 
--- one in progress has no fate yet
+-- a transaction in progress has no fate yet
 no_fate : (s : Status) → is_under_way s ≡ true → fate_of s ≡ InProgress
 no_fate status.NotBegun e = refl
 no_fate status.InProgress e = refl
@@ -219,7 +219,7 @@ fate_aborted true status.Aborted on = refl
 fate_aborted true status.Joined on = refl
 fate_aborted false s on = refl
 
--- no commit leaves anything to an heir
+-- no commit transfers operations to an heir
 no_heir : {A : Type 0} (m : Parts A) (h : List (Kept A)) (t : ℕ) → parent_of h t ≡ None → heir m h t ≡ None
 no_heir m h t none = of (has_class (λ k. has_heir k.at_commit) m h t)
   where
@@ -227,7 +227,7 @@ no_heir m h t none = of (has_class (λ k. has_heir k.at_commit) m h t)
     of true = none
     of false = refl
 
--- an operation that conflicts with nothing stands against none in progress of others
+-- an operation without conflicts commutes with those in progress of others
 unconflicted : {A : Type 0} (m : Parts A) (h : List (Kept A)) (t : ℕ) (o : Operation) (f : ℕ → Fate) → o.invoker ≡ t → has_class is_strict_class m h t ≡ true → ((u v object : ℕ) → has_permitted h u v object ≡ false) → AllByRecursion (λ x. standing m h x ≡ stands_so f x) (operations h) → conflicting m h t o.object o.op ≡ []
     → list_all (λ x. (x.invoker == o.invoker) || is_free m x o) (filter (λ x. is_open (f x.invoker)) (operations h)) ≡ true
 unconflicted {A} m h t o f of_t strict unpermitted stand none =
@@ -368,8 +368,8 @@ order-places m h strict none =
     let so_far = serial-history m h strict none in
     groups-places m h so_far (commit_order h) so_far.serial.ended
 
--- strict models are serial in the order of their commits: each committed operation returned what it returns where the
--- serial order is replayed from the first values
+-- strict models are serial in the order of their commits: replaying the serial order from the initial values gives each
+-- committed operation the return that it had
 pub strict-serial : {A : Type 0} (m : Parts A) (h : List (Kept A)) → is_strict m ≡ true → faults_in_places m h ≡ [] → replayed m (serial_order m h) ≡ map (λ o. o.ret) (serial_order m h)
 strict-serial {A} m h strict none =
     let so_far = serial-history m h strict none in

@@ -1,4 +1,4 @@
--- How a transaction stands, when one kept item is put at the end, and what its status tells.
+-- The status of a transaction when one kept item is appended, and what the status implies.
 use Rattle.std.proofs.Common.{◌≡◌, ℕ, ◌==◌, Bool, true, false, ◌&&◌, not, if◌then◌else◌, List, [], ◌∷◌, ◌++◌, Option, Some, None, is_some, refl, ap, ◌∙◌}
 use Rattle.std.proofs.lemmas.Bool.{true≢false}
 use Rattle.acta_table.specs.declared.answer.Status.{Status}
@@ -11,7 +11,7 @@ use Rattle.acta_axioms.specs.Claims.{course_status, status_at}
 use Rattle.acta_axioms.proofs.Growth.{or_here, or_here-false, course-push}
 
 -- a status after a begin, spawn or split of the transaction, after an abort, and after a join; after a commit it is
--- committed
+-- Committed
 abbrev pub when_begun : Status → Status
 when_begun NotBegun = InProgress
 when_begun s = s
@@ -85,12 +85,12 @@ status_at-push {A} h k t = ap course_status (course-push h k t) ∙ of_event k.e
     of_event (Abort u) = aborted_in h (course h t).start (course h t).commit (course h t).abort (course h t).join (u.0 == t)
     of_event _ = as_it_was h (course h t).start (course h t).commit (course h t).abort (course h t).join
 
--- whether this is the status of one in progress
+-- whether this is the status of a transaction in progress
 abbrev pub is_under_way : Status → Bool
 is_under_way InProgress = true
 is_under_way _ = false
 
--- one is in progress exactly where its status says so
+-- a transaction is in progress exactly if its status is `InProgress`
 pub in_progress-status : {A : Type 0} (h : List (Kept A)) (t : ℕ) → is_in_progress h t ≡ is_under_way (status_at h t)
 in_progress-status h t = of_course (course h t).start (course h t).commit (course h t).abort (course h t).join
   where
@@ -104,7 +104,7 @@ in_progress-status h t = of_course (course h t).start (course h t).commit (cours
     of_course (Some i) None (Some l) j = refl
     of_course (Some i) (Some l) a j = refl
 
--- the start and the end of one, by its status; of one that has ended the start may be missing
+-- the start and the end of a transaction, by its status; one that has ended may lack a start
 abbrev pub is_ended_status : Status → Bool
 is_ended_status Committed = true
 is_ended_status Aborted = true

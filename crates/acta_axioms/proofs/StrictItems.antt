@@ -1,4 +1,4 @@
--- What an item without fault is in a history of a strict model.
+-- Facts about an item without fault in a history of a strict model.
 use Rattle.std.proofs.Common.{arith, ◌≡◌, ℕ, zero, suc, ◌<◌, ◌==◌, Bool, true, false, ◌&&◌, ◌||◌, not, cond, List, [], ◌∷◌, length, map, filter, Option, Some, None, is_some, refl, sym, ap, ◌∙◌}
 use Rattle.std.specs.Prelude.{if◌then◌else◌, nat_le, slice_get, option_map}
 use Rattle.std.specs.List.{list_all, list_any}
@@ -35,7 +35,7 @@ use Rattle.acta_axioms.specs.Faults.{when, first_named, ill_formed, lacks_start,
 use Rattle.acta_axioms.proofs.Growth.{class_in}
 use Rattle.acta_axioms.specs.Serial.{is_strict_class, is_strict}
 
--- tests that are false where nothing is listed
+-- a test is false if it lists nothing
 pub when-none : (b : Bool) (n : ℕ) → when b n ≡ [] → b ≡ false
 when-none true n e = cc
 when-none false n e = refl
@@ -92,7 +92,7 @@ strict-parts k e =
       permits = not-true _ p9.1;
     }
 
--- of a class that is there and strict, what holds of each strict class holds
+-- a strict class of the model has each property of strict classes
 pub of-strict : {A : Type 0} (test : Class A → Bool) (b : Bool) → ((k : Class A) → StrictParts k → test k ≡ b) → (class : Option (Class A)) → option_map_or is_strict_class class false ≡ true → option_map_or test class false ≡ b
 of-strict test b each None e = absurd (true≢false (sym e))
 of-strict test b each (Some k) e = each k (strict-parts k e)
@@ -112,13 +112,13 @@ formed-parts m e none =
     let p4 = or_parts (is_some (bad_operation m e)) _ p3.1 in
     record { class = p2.0; object = p3.0; operation = p4.0 }
 
--- one of a list that all pass, by number
+-- the item with a number passes if all do
 all-there : {X : Type 0} (test : X → Bool) (xs : List X) (n : ℕ) → list_all test xs ≡ true → n < length xs → option_map_or test (slice_get xs n) false ≡ true
 all-there test [] n all within = absurd (omega arith)
 all-there test (x ∷ xs) zero all within = (and_parts (test x) (list_all test xs) all).0
 all-there test (x ∷ xs) (suc n) all within = all-there test xs n (and_parts (test x) (list_all test xs) all).1 (omega arith)
 
--- the class that an event names is there, and strict
+-- the class that an event names exists and is strict
 pub class-strict : {A : Type 0} (m : Parts A) (e : Event A) (c : ℕ) → is_strict m ≡ true → ill_formed m e ≡ [] → class_named e ≡ Some c → option_map_or is_strict_class (class_in m e) false ≡ true
 unfolding bad_class
 class-strict m e c strict none named =
@@ -126,7 +126,7 @@ class-strict m e c strict none named =
     ap (λ n. option_map_or is_strict_class (option_and_then (class_at m) n) false) named
     ∙ all-there is_strict_class m.classes c strict (leb-false _ _ (sym (ap (λ n. option_map_or (nat_le (length m.classes)) n false) named) ∙ within))
 
--- what is allowed lacks nothing
+-- an event that is allowed lacks nothing
 pub lacks-nothing : {A : Type 0} (m : Parts A) (h : List (Kept A)) (e : Event A) → not_allowed m h e ≡ [] → (lacks_start m e ≡ false) × (option_map_or (lacks_kind m h (kind_of e)) (acting e) false ≡ false)
 lacks-nothing m h e none =
     let kind = option_map_or (lacks_kind m h (kind_of e)) (acting e) false in
@@ -146,7 +146,7 @@ no-split m h t u class ops strict formed allowed =
     (sym (of-strict (λ k. not (can_start split_kind k)) true (λ k s. ap not s.split) (class_in m (Split t u class ops)) (class-strict m (Split t u class ops) class.0 strict formed refl))
     ∙ (lacks-nothing m h (Split t u class ops) allowed).0)
 
--- nor does one with a strict class join another or delegate
+-- nor does a transaction with a strict class join another or delegate
 pub no-join : {A : Type 0} (m : Parts A) (h : List (Kept A)) (t u : TxnId) → has_class is_strict_class m h t.0 ≡ true → not_allowed m h (Join t u) ≡ [] → ⊥
 no-join m h t u strict allowed =
     true≢false
@@ -159,21 +159,21 @@ no-delegation m h t u ops strict allowed =
     (sym (of-strict (λ k. not (can_do delegate_kind k)) true (λ k s. ap not s.delegates) (class_of m h t.0) strict)
     ∙ (lacks-nothing m h (Delegate t u ops) allowed).1)
 
--- nor permit
+-- nor does it permit
 pub no-permit : {A : Type 0} (m : Parts A) (h : List (Kept A)) (t u : TxnId) (ob : ObjId) → has_class is_strict_class m h t.0 ≡ true → not_allowed m h (Permit t u ob) ≡ [] → ⊥
 no-permit m h t u ob strict allowed =
     true≢false
     (sym (of-strict (λ k. not (can_do permit_kind k)) true (λ k s. ap not s.permits) (class_of m h t.0) strict)
     ∙ (lacks-nothing m h (Permit t u ob) allowed).1)
 
--- one that ends has begun, and not ended
+-- a transaction that ends has begun, and not ended before
 pub ends-begun : {A : Type 0} (h : List (Kept A)) (t : ℕ) → filter (λ u. not (has_begun h u)) (t ∷ []) ≡ [] → has_begun h t ≡ true
 ends-begun h t none = not-false (has_begun h t) (first-none (λ u. not (has_begun h u)) t [] none)
 
 pub ends-open : {A : Type 0} (h : List (Kept A)) (t : ℕ) → filter (has_ended h) (t ∷ []) ≡ [] → has_ended h t ≡ false
 ends-open h t none = first-none (has_ended h) t [] none
 
--- one that delegates or permits is in progress
+-- a transaction that delegates or permits is in progress
 pub parties-begun : {A : Type 0} (h : List (Kept A)) (t u : TxnId) → filter (λ v. not (is_in_progress h v)) (if t.0 == u.0 then t.0 ∷ [] else t.0 ∷ u.0 ∷ []) ≡ [] → has_begun h t.0 ≡ true
 parties-begun h t u none =
     (and_parts (has_begun h t.0) (not (has_ended h t.0)) (not-false (is_in_progress h t.0) (of (t.0 == u.0) none))).0
@@ -182,11 +182,11 @@ parties-begun h t u none =
     of true e = first-none (λ v. not (is_in_progress h v)) t.0 [] e
     of false e = first-none (λ v. not (is_in_progress h v)) t.0 (u.0 ∷ []) e
 
--- an operation is of one in progress
+-- the transaction of an operation is in progress
 pub operates-open : {A : Type 0} (h : List (Kept A)) (t : ℕ) → when (not (is_in_progress h t)) t ≡ [] → is_in_progress h t ≡ true
 operates-open h t none = not-false (is_in_progress h t) (when-none (not (is_in_progress h t)) t none)
 
--- conflicts with none
+-- the operation conflicts with none
 pub conflicts-none : {A : Type 0} (m : Parts A) (h : List (Kept A)) (t : TxnId) (ob : ObjId) (op : Op) → has_class is_strict_class m h t.0 ≡ true → in_conflict m h (Operate t ob op) ≡ [] → conflicting m h t.0 ob.0 op ≡ []
 conflicts-none m h t ob op strict none =
     of (has_class (λ k. refuses k.policy) m h t.0) (of-strict (λ k. refuses k.policy) true (λ k s. s.policy) (class_of m h t.0) strict) none
@@ -199,7 +199,7 @@ conflicts-none m h t ob op strict none =
     of true is e = no_map (conflicting m h t.0 ob.0 op) e
     of false is e = absurd (true≢false (sym is))
 
--- and returns what is due
+-- it has the return due
 same-ret : (r s : Ret) → is_same_ret r s ≡ true → r ≡ s
 same-ret Done Done e = refl
 same-ret Done (Value w) e = absurd (true≢false (sym e))
@@ -218,7 +218,7 @@ due-ret None ret e = absurd (true≢false (sym e))
 due-ret (Some r) None e = absurd (true≢false (sym e))
 due-ret (Some r) (Some s) e = ap Some (same-ret r s e)
 
--- its object is there
+-- its object exists
 pub object-there : {A : Type 0} (m : Parts A) (t : TxnId) (ob : ObjId) (op : Op) → ill_formed m (Operate t ob op) ≡ [] → ob.0 < length m.objects
 unfolding bad_object
 object-there m t ob op none = leb-false _ _ (unbroken-if _ BadObject (formed-parts m (Operate t ob op) none).object)
@@ -234,7 +234,7 @@ well-formed {A} m t ob op none =
     of (o ∷ os) zero within e = not-false (suits o.kind op) e
     of (o ∷ os) (suc n) within e = of os n (omega arith) e
 
--- so it returns something
+-- so it has a return
 pub returned-some : {A : Type 0} (m : Parts A) (h : List (Kept A)) (ret : Option Ret) (t : TxnId) (ob : ObjId) (op : Op) → ill_formed m (Operate t ob op) ≡ [] → wrong_return m h ret (Operate t ob op) ≡ [] → is_some ret ≡ true
 returned-some m h ret t ob op formed none =
     let wrong = not (is_due (return_due m h ob.0 op) ret) in

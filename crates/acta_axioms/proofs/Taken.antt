@@ -22,14 +22,14 @@ any-taken test xs n d within =
     ∙ list_any-append test (take n xs) (get_or xs n d ∷ [])
     ∙ ap (λ b. list_any test (take n xs) || b) (or_false (test (get_or xs n d)))
 
--- one more that was found among those that are counted, where it counts
+-- appending an item that counts to those found
 pub one-more : {X : Type 0} (named counts : X → Bool) (found seen : List X) (x : X) → counts x ≡ true → list_any named found ≡ list_any (λ y. named y && counts y) seen
     → list_any named (found ++ x ∷ []) ≡ (list_any (λ y. named y && counts y) seen || (named x && counts x))
 one-more named counts found seen x is same =
     list_any-append named found (x ∷ [])
     ∙ (λ i. same i || (or_false (named x) ∙ sym (and_true (named x)) ∙ ap (λ b. named x && b) (sym is)) i)
 
--- and where it does not
+-- the same for an item that does not count
 pub one-fewer : {X : Type 0} (named counts : X → Bool) (found seen : List X) (x : X) → counts x ≡ false → list_any named found ≡ list_any (λ y. named y && counts y) seen
     → list_any named found ≡ (list_any (λ y. named y && counts y) seen || (named x && counts x))
 one-fewer named counts found seen x is same =

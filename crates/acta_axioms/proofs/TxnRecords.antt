@@ -1,4 +1,4 @@
--- The lineage of each transaction, one item further, and as it was at an earlier place.
+-- The record of each transaction after one more item, and at an earlier place.
 use Rattle.std.proofs.Common.{if◌then◌else◌, ◌≡◌, ℕ, ◌+◌, ◌<◌, ◌≤◌, Bool, true, false, ◌==◌, cond, leb, List, [], ◌∷◌, ◌++◌, length, take, drop, get_or, Option, Some, None, option_map, is_some, refl, sym, ap, ◌∙◌, arith}
 use Rattle.std.specs.List.{find, AllByRecursion}
 use Rattle.std.specs.Option.{option_or, option_and_then, option_map_or}
@@ -21,7 +21,7 @@ use Rattle.acta_axioms.specs.inside.TxnRecords.{unbegun, class_id, txn_record, b
 use Rattle.acta_axioms.proofs.Growth.{found-passes, first-append, places_within, course-push, class_number-push, parent_of-push}
 use Rattle.acta_axioms.proofs.Tables.{get_or-blank}
 
--- one that has not begun has nothing that a start gives: no class and no parent
+-- a transaction that has not begun has no class and no parent
 start-unbegun : {A X : Type 0} (by : Place A → Option X) (o : Option (Place A)) → is_some (option_map number o) ≡ false → option_and_then by o ≡ None
 start-unbegun by None is = refl
 start-unbegun by (Some p) is = absurd (true≢false is)
@@ -32,11 +32,11 @@ class-unbegun h t = start-unbegun _ (first (starts t) h)
 parent-unbegun : {A : Type 0} (h : List (Kept A)) (t : ℕ) → is_some (course h t).start ≡ false → parent_of h t ≡ None
 parent-unbegun h t = start-unbegun _ (first (starts t) h)
 
--- a lineage by its parts
+-- a record from its parts
 abbrev made_of : Option ℕ → Option ℕ → Option ℕ → Option ℕ → Option ℕ → Option TxnId → TxnRecord
 made_of s c a j class parent = record { course = record { start = s; commit = c; abort = a; join = j }; class = class_id class; parent = parent }
 
--- what was there, or else this place where the test is true
+-- the old place, or else this one if the test is true
 abbrev here : ℕ → Option ℕ → Bool → Option ℕ
 here n o b = option_or o (cond b (Some n) None)
 
@@ -46,7 +46,7 @@ or_where n None false = refl
 or_where n (Some m) true = refl
 or_where n (Some m) false = refl
 
--- what one that has begun has, or else what its start gives it
+-- the old value if the transaction has begun, otherwise the value that its start gives
 abbrev given : {X : Type 0} → Option ℕ → Bool → Option X → Option X → Option X
 given s b new old = if is_some s then old else if b then new else None
 
@@ -54,7 +54,7 @@ given-nothing : {X : Type 0} (s : Option ℕ) (new old : Option X) → (is_some 
 given-nothing None new old none = sym (none refl)
 given-nothing (Some i) new old none = refl
 
--- an event that starts one, where the test is true
+-- an event that starts the transaction, if the test is true
 start_line : (n : ℕ) (b : Bool) (s c a j class : Option ℕ) (parent : Option TxnId) (new : ClassId) (by : Option TxnId) → (is_some s ≡ false → class ≡ None) → (is_some s ≡ false → parent ≡ None) →
     made_of (here n s b) (here n c false) (here n a false) (here n j false) (given s b (Some new.0) class) (given s b by parent)
     ≡ (if b then started n new by (made_of s c a j class parent) else made_of s c a j class parent)
@@ -63,12 +63,12 @@ start_line n true (Some m) c a j class parent new by no_class no_parent = λ i. 
 start_line n false s c a j class parent new by no_class no_parent = λ i.
     made_of (or_where n s false i) (or_where n c false i) (or_where n a false i) (or_where n j false i) (given-nothing s (Some new.0) class no_class i) (given-nothing s by parent no_parent i)
 
--- a lineage with the one place or the other
+-- a record with one of two places
 where_true : (line : Option ℕ → TxnRecord) (b : Bool) (o p : Option ℕ) → line (if b then o else p) ≡ (if b then line o else line p)
 where_true line true o p = refl
 where_true line false o p = refl
 
--- the lineage of one more item
+-- the record after one more item
 txn_record-push : {A : Type 0} (h : List (Kept A)) (k : Kept A) (t : ℕ) → txn_record (h ++ k ∷ []) t ≡ further (length h + 1) (has_begun h) k.event t (txn_record h t)
 txn_record-push {A} h k t = (λ i. record { course = course-push h k t i; class = class_id (class_number-push h k t i); parent = parent_of-push h k t i }) ∙ of_event k.event
   where
@@ -87,7 +87,7 @@ txn_record-push {A} h k t = (λ i. record { course = course-push h k t i; class 
     j : Option ℕ
     j = (course h t).join
 
-    -- an event that starts none, by whether it ends t by a commit, an abort or a join
+    -- an event that starts no transaction, by whether it ends t by a commit, an abort or a join
     ended : (b d f : Bool) → made_of (here n s false) (here n c b) (here n a d) (here n j f) (given s false None (class_number h t)) (given s false None (parent_of h t))
         ≡ made_of s (if b then or_at n c else c) (if d then or_at n a else a) (if f then or_at n j else j) (class_number h t) (parent_of h t)
     ended b d f = λ i.
@@ -104,11 +104,11 @@ txn_record-push {A} h k t = (λ i. record { course = course-push h k t i; class 
     of_event (Abort u) = ended false (u.0 == t) false ∙ where_true (λ o. made_of s c o j (class_number h t) (parent_of h t)) (u.0 == t) (or_at n a) a
     of_event _ = ended false false false
 
--- a blank table says of no item what there is to say
+-- a table of blank records is right before the first item
 pub lines-blank : {A : Type 0} (h : List (Kept A)) (lines : List TxnRecord) (n t : ℕ) → lines ≡ replicate n unbegun → get_or lines t unbegun ≡ txn_record (take 0 h) t
 lines-blank h lines n t blank = ap (λ xs. get_or xs t unbegun) blank ∙ get_or-blank n t unbegun
 
--- one item more, in a table
+-- one more item, in a table
 pub lines-more : {A : Type 0} (h : List (Kept A)) (n : ℕ) (d : Kept A) (old new : List TxnRecord) → n < length h →
     ((t : ℕ) → get_or old t unbegun ≡ txn_record (take n h) t) → ((t : ℕ) → get_or new t unbegun ≡ further (n + 1) (begun_in old) (get_or h n d).event t (get_or old t unbegun)) →
     (t : ℕ) → get_or new t unbegun ≡ txn_record (take (n + 1) h) t
@@ -119,7 +119,7 @@ lines-more h n d old new within old_are step t =
     ∙ sym (txn_record-push (take n h) (get_or h n d) t)
     ∙ sym (ap (λ g. txn_record g t) (take_more h n d within))
 
--- the class of one by its lineage
+-- the class of a transaction, by its record
 pub class-lined : {A : Type 0} (m : Parts A) (h : List (Kept A)) (t : ℕ) → class_by m (txn_record h t) ≡ class_of m h t
 class-lined {A} m h t = of_number (class_number h t)
   where
@@ -137,12 +137,12 @@ heir-tabled m h lines _ are = refl
 
 -- at an earlier place
 
--- behind some items each place has a greater number than they have
+-- after some items every place has a greater number than theirs
 places_past : {A : Type 0} (n : ℕ) (before h : List (Kept A)) → n ≤ length before → AllByRecursion (λ p. n < number p) (places_behind before h)
 places_past n before [] past = tt
 places_past n before (k ∷ ks) past = (omega arith, places_past n (before ++ k ∷ []) ks (let grown = length_push before k in omega arith))
 
--- the heir by the first start: as it is, and where it is among the first n places
+-- the heir by the first start: in the whole history, and if it is among the first n places
 abbrev heir_from : {A : Type 0} → Parts A → Option (Place A) → Option TxnId
 heir_from m o =
     if option_map_or (λ (c : Class _). has_heir c.at_commit) (option_and_then (λ (class : ClassId). class_at m class.0) (class_id (option_and_then (λ (p : Place _). class_named p.kept.event) o))) false
@@ -157,7 +157,7 @@ up_to m n (Some q) p low high = cond-true _ _ _ (le-leb (number q) n (low q refl
 up_to m n None None low high = refl
 up_to m n None (Some q) low high = cond-false _ _ _ (lt-leb (number q) n (high q refl))
 
--- the heir behind the first n places, by the lineage behind all
+-- the heir after the first n places, by the record for the whole history
 heir-earlier : {A : Type 0} (m : Parts A) (h : List (Kept A)) (n t : ℕ) → n ≤ length h → heir_of_line m (before_place n (txn_record h t)) ≡ heir m (take n h) t
 heir-earlier {A} m h n t within =
     in_test (option_map_or (λ start. leb start n) (course h t).start false)

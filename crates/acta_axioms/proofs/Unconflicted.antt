@@ -1,4 +1,4 @@
--- Where no operation of another conflicts with one, whomever its transaction exempts, none stands against it.
+-- If no operation of another conflicts, exempt or not, there is no conflict.
 use Rattle.std.proofs.Common.{if◌then◌else◌, ◌≡◌, ℕ, Bool, true, false, not, ◌&&◌, ◌||◌, ◌==◌, ◌+◌, cond, List, [], ◌∷◌, map, filter, Some, None, refl, sym, ap, ◌∙◌}
 use Rattle.std.specs.List.{list_any, position_from}
 use Rattle.std.proofs.lemmas.Bool.{or_parts}
@@ -25,7 +25,7 @@ any-fewer-but t exempt ob op =
     any-fewer (is_against t [] ob op) (is_against_but t exempt ob op)
     (λ i. fewer-by (is_open i.fate && not (i.holder.0 == t)) (exempt i.holder.0) (i.ob.0 == ob) (ops_conflict i.op op))
 
--- who is exempt nobody's operations has all against it that another has who is exempt some
+-- exempting transactions can only remove conflicting operations
 pub not_exempt : (w : Bool) (t : ℕ) (exempt : ℕ → Bool) (ob : ℕ) (op : Op) (items : List HeldOp) → (w && list_any (is_against t [] ob op) items) ≡ false → (w && list_any (is_against_but t exempt ob op) items) ≡ false
 not_exempt true t exempt ob op items none = any-fewer-but t exempt ob op items none
 not_exempt false t exempt ob op items none = refl
@@ -36,7 +36,7 @@ no-first p n (i ∷ items) none =
     let parts = or_parts (p i) (list_any p items) none in
     no-first p (n + 1) items parts.1 ∙ ap (λ b. cond b (Some n) (position_from p (n + 1) items)) (sym parts.0)
 
--- then there is no first one
+-- then there is no first conflicting operation
 pub first-unconflicted : (w : Bool) (p : HeldOp → Bool) (items : List HeldOp) → (w && list_any p items) ≡ false → None ≡ (if w then first_number p items else None)
 first-unconflicted true p items none = no-first p 1 items none
 first-unconflicted false p items none = refl
@@ -47,7 +47,7 @@ none-left p (i ∷ items) none =
     let parts = or_parts (p i) (list_any p items) none in
     none-left p items parts.1 ∙ ap (λ b. cond b (i ∷ filter p items) (filter p items)) (sym parts.0)
 
--- and nobody holds one
+-- and no conflicting holder
 pub holders-unconflicted : (w : Bool) (p : HeldOp → Bool) (items : List HeldOp) → (w && list_any p items) ≡ false → [] ≡ (if w then ascending (map (λ i. i.holder.0) (filter p items)) else [])
 holders-unconflicted true p items none = ap (λ (xs : List HeldOp). ascending (map (λ (i : HeldOp). i.holder.0) xs)) (none-left p items none)
 holders-unconflicted false p items none = refl

@@ -1,4 +1,4 @@
--- What the view and values become when one kept item is put at the end of a history.
+-- The view and values when one kept item is appended to a history.
 use Rattle.std.proofs.Common.{inl, inr, ◌≡◌, ℕ, Bool, true, false, ◌&&◌, ◌==◌, cond, List, [], ◌∷◌, filter, refl, sym, ap, ◌∙◌}
 use Rattle.std.proofs.lemmas.Bool.{cases_eq, eq-eqb, ne_eqb}
 use Rattle.acta_table.specs.declared.event.Event.{Event}

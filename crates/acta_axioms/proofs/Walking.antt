@@ -1,4 +1,4 @@
--- What a walk keeps, one item further.
+-- The data that a walk keeps, after one more item.
 use Rattle.std.proofs.Common.{subst, ◌≡◌, ℕ, zero, suc, ◌+◌, ◌<◌, List, [], ◌∷◌, ◌++◌, length, take, drop, get_or, Option, Some, is_some, refl, sym, ap, ◌∙◌, arith}
 use Rattle.std.specs.Prelude.{slice_get, option_to_list}
 use Rattle.std.specs.List.{All}
@@ -24,7 +24,7 @@ use Rattle.acta_axioms.proofs.Bringing.{held_ops-push}
 use Rattle.acta_axioms.proofs.EdgeGrowth.{edges-push}
 use Rattle.acta_axioms.proofs.TxnRecords.{lines-more, heir-tabled}
 
--- the item at the place that is reached
+-- the item at the current place
 pub record IsNext {A : Type 0} (h : List (Kept A)) (n : ℕ) (k : Kept A) : Type 0 where
   pub within : n < length h
   pub here : k ≡ get_or h n k
@@ -42,11 +42,11 @@ next-item (x ∷ xs) (suc n) k is =
     let past : suc (n + 1) ≡ suc n + 1 = omega arith in
     record { within = omega arith; here = later.here; ahead = later.ahead ∙ ap (λ j. k ∷ drop j (x ∷ xs)) past }
 
--- the front with it
+-- the items before the next place
 pub front-more : {A : Type 0} (h : List (Kept A)) (n : ℕ) (k : Kept A) → IsNext h n k → take n h ++ k ∷ [] ≡ take (n + 1) h
 front-more h n k next = ap (λ q. take n h ++ q ∷ []) next.here ∙ sym (take_more h n k next.within)
 
--- what is shown
+-- the abstract state
 pub shown-more : {A : Type 0} (m : Parts A) (h : List (Kept A)) (n : ℕ) (k : Kept A) (w : Walked A) → IsNext h n k → (let v : Walked A = record { model = m; front = take n h; ahead = drop n h } in v) ≡ w →
     (let v : Walked A = record { model = m; front = take (n + 1) h; ahead = drop (n + 1) h } in v) ≡ stepped w
 shown-more {A} m h n k w next is =
@@ -54,7 +54,7 @@ shown-more {A} m h n k w next is =
     ∙ (λ i. with_next (record { model = m; front = take n h; ahead = drop n h }) (sym next.ahead i))
     ∙ ap stepped is
 
--- what is kept
+-- the kept data
 pub kept-more : {A : Type 0} (m : Parts A) (h : List (Kept A)) (n : ℕ) (k : Kept A) (lines new_lines : List TxnRecord) (store new_store : Stored) (es new_es : List Edge) (ps new_ps : Permitted) (left : Option TxnId) → IsNext h n k →
     IsKept m h n lines store es ps → new_es ≡ formed es (formed_by m (take n h) k.event) → left ≡ heir_in m lines k.event → new_store ≡ record store { items = brought_from left k.event 1 store.items ++ option_to_list (op_done k.event) } → new_ps ≡ permits_behind (is_late (ended_in lines) k.event) k.event ps →
     length new_lines ≡ length lines → ((t : ℕ) → get_or new_lines t unbegun ≡ further (n + 1) (begun_in lines) k.event t (get_or lines t unbegun)) → IsKept m h (n + 1) new_lines new_store new_es new_ps
@@ -79,7 +79,7 @@ kept-more m h n k lines new_lines store new_store es new_es ps new_ps left next 
       edges_are = formed_are ∙ ap (λ fs. formed fs (formed_by m (take n h) k.event)) kept.edges_are ∙ sym (edges-push m (take n h) k) ∙ ap (edges m) front;
     }
 
--- a walk that goes on behind the first n items
+-- a walk that goes on after the first n items
 pub goes-on : {A : Type 0} (m : Parts A) (h : List (Kept A)) (n : ℕ) (w : Walked A) → n < length h → w ≡ record { model = m; front = take n h; ahead = drop n h } →
     stepped w ≡ record { model = m; front = take (n + 1) h; ahead = drop (n + 1) h }
 goes-on {A} m h n w within is = of_ahead (drop n h) refl

@@ -1,10 +1,10 @@
--- The number of each axiom, by which faults are listed.
+-- The number of each axiom, which orders faults.
 use Rattle.std.specs.Prelude.{ℕ, ◌+◌}
 use Rattle.acta_table.specs.Dependencies.{code_of}
 use Rattle.acta_axioms.specs.declared.fault.Axiom.{Axiom}
 use Rattle.acta_axioms.specs.declared.fault.Axiom.TheVariants.{BegunOnce, EndedAfterBegun, EndedOnce, OperatesInProgress, FormOfEvent, Allowed, PartiesInProgress, Responsible, HandsWhole, Conflict, Return, Heir, FormedInTime, Dependency, Clash}
 
--- from 1 to 13 for places; 21 and the code of the kind for a dependency; 33 for debts
+-- 1 to 13 for axioms on single places, 21 plus the kind's code for dependencies, 33 for debts
 unfoldable pub axiom_number : Axiom → ℕ
 axiom_number BegunOnce = 1
 axiom_number EndedAfterBegun = 2

@@ -1,4 +1,4 @@
--- What is claimed of each history that a machine keeps.
+-- The properties that are proved of every history of a machine.
 use Rattle.std.specs.Prelude.{ℕ, ◌≡◌, Bool, true, ◌&&◌, ◌||◌, not, ◌==◌, List, [], is_some, if◌then◌else◌}
 use Rattle.std.specs.List.{list_all}
 use Rattle.acta_table.specs.declared.dep.Edge.{Edge}
@@ -12,27 +12,27 @@ use Rattle.acta_axioms.specs.Edges.{edges}
 use Rattle.acta_axioms.specs.Legal.{is_legal}
 use Rattle.acta_axioms.specs.Faults.{faults_in_places}
 
--- a history that the axioms allow: there is no fault at any place, and it is legal
+-- a history that satisfies the axioms: no place has a fault, and the history is legal
 pub record MeetsAxioms {A : Type 0} (m : Parts A) (h : List (Kept A)) : Type 0 where
   pub faultless : faults_in_places m h ≡ []
   pub legal : is_legal m h ≡ true
 
--- whether a course that has an end has a start, and has at most one of commit, abort and join
+-- whether a course with an end has a start, and has at most one of commit, abort and join
 abbrev pub is_orderly : Course → Bool
 is_orderly c =
     (is_some c.start || not (is_some (end c))) && not (is_some c.commit && is_some c.abort)
     && not (is_some c.commit && is_some c.join) && not (is_some c.abort && is_some c.join)
 
--- whether the edge joins two transactions
+-- whether the edge is between two different transactions
 abbrev pub is_apart : Edge → Bool
 is_apart e = not (e.j.0 == e.i.0)
 
--- each course is orderly, and each edge joins two transactions
+-- every course is orderly, and every edge is between two different transactions
 pub record IsOrderly {A : Type 0} (m : Parts A) (h : List (Kept A)) : Type 0 where
   pub courses : (t : ℕ) → is_orderly (course h t) ≡ true
   pub edges : list_all is_apart (edges m h) ≡ true
 
--- how a transaction of this course stands
+-- the status of a transaction with this course
 abbrev pub course_status : Course → Status
 course_status c =
     if is_some c.commit then Committed
@@ -41,6 +41,6 @@ course_status c =
     else if is_some c.start then InProgress
     else NotBegun
 
--- how a transaction stands, by the places of the history
+-- the status of a transaction at the end of the history
 abbrev pub status_at : {A : Type 0} → List (Kept A) → ℕ → Status
 status_at h t = course_status (course h t)

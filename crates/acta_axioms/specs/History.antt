@@ -1,6 +1,6 @@
--- A history by its places: where each transaction started and ended, its class and its ancestors.
--- Each notion is read off a list, legal or not. Of `p.before` it says what holds before the place p,
--- of the first n items what holds at n, and of a whole history what holds at its end.
+-- A history as a list of places: the start and end of each transaction, its class and its ancestors. Every notion is
+-- defined on any list, legal or not. Applied to `p.before` it describes the state before place p, applied to the first
+-- n items the state after place n, and applied to a whole history its final state.
 use Rattle.std.specs.Prelude.{ℕ, ◌+◌, Bool, false, ◌&&◌, not, ◌==◌, min, List, [], ◌∷◌, ◌++◌, length, find, if◌then◌else◌, Option, Some, None, option_map, is_some}
 use Rattle.std.specs.Option.{option_map_or, option_and_then}
 use Rattle.acta_table.specs.declared.event.Event.{Event}
@@ -14,16 +14,16 @@ use Rattle.acta_table.specs.Events.{started, class_named}
 use Rattle.acta_table.specs.Classes.{class_at}
 use Rattle.acta_axioms.specs.declared.course.Course.{Course}
 
--- a place of a history: the item that stands there, and all that stands before it
+-- a place of a history: its item, and all items before it
 pub record Place (A : Type 0) : Type 0 where
   pub before : List (Kept A)
   pub kept : Kept A
 
--- places are numbered from 1
+-- the number of a place, from 1
 abbrev pub number : {A : Type 0} → Place A → ℕ
 number p = length p.before + 1
 
--- the places of some items that stand behind others
+-- the places of items that follow others
 abbrev pub places_behind : {A : Type 0} → List (Kept A) → List (Kept A) → List (Place A)
 places_behind before [] = []
 places_behind before (k ∷ ks) =
@@ -51,12 +51,12 @@ abbrev pub aborts : {A : Type 0} → ℕ → Event A → Bool
 aborts t (Abort u) = u.0 == t
 aborts t _ = false
 
--- whether by the event t joins another
+-- whether by the event t joins another transaction
 abbrev pub joins : {A : Type 0} → ℕ → Event A → Bool
 joins t (Join u v) = u.0 == t
 joins t _ = false
 
--- the course of t in a history
+-- the course of t in a history: the first places of its start, commit, abort and join
 abbrev pub course : {A : Type 0} → List (Kept A) → ℕ → Course
 course h t = record {
   start = option_map number (first (starts t) h);
@@ -65,12 +65,12 @@ course h t = record {
   join = option_map number (first (joins t) h);
 }
 
--- the smaller of two places, of those that are there
+-- the smaller of two places, or the only one
 abbrev pub least : Option ℕ → Option ℕ → Option ℕ
 least None n = n
 least (Some m) n = Some (option_map_or (min m) n m)
 
--- where the transaction first ended, in any way
+-- the place where the transaction first ended, in any way
 abbrev pub end : Course → Option ℕ
 end c = least c.commit (least c.abort c.join)
 
@@ -78,7 +78,7 @@ end c = least c.commit (least c.abort c.join)
 abbrev pub has_begun : {A : Type 0} → List (Kept A) → ℕ → Bool
 has_begun h t = is_some (course h t).start
 
--- whether t has ended, also where it never started
+-- whether t has ended, even if it never started
 abbrev pub has_ended : {A : Type 0} → List (Kept A) → ℕ → Bool
 has_ended h t = is_some (end (course h t))
 
@@ -86,24 +86,24 @@ has_ended h t = is_some (end (course h t))
 abbrev pub is_in_progress : {A : Type 0} → List (Kept A) → ℕ → Bool
 is_in_progress h t = has_begun h t && not (has_ended h t)
 
--- the number of the class that t's start names
+-- the number of the class named by t's start
 abbrev pub class_number : {A : Type 0} → List (Kept A) → ℕ → Option ℕ
 class_number h t = option_and_then (λ p. class_named p.kept.event) (first (starts t) h)
 
--- the class of t, where it is in the model
+-- the class of t, if it is in the model
 abbrev pub class_of : {A : Type 0} → Parts A → List (Kept A) → ℕ → Option (Class A)
 class_of m h t = option_and_then (class_at m) (class_number h t)
 
--- whether t has a class in the model, of which the test is true
+-- whether t has a class in the model that passes the test
 abbrev pub has_class : {A : Type 0} → (Class A → Bool) → Parts A → List (Kept A) → ℕ → Bool
 has_class test m h t = option_map_or test (class_of m h t) false
 
--- the transaction that spawns by an event, where it had begun itself
+-- the transaction that spawns by the event, if it had begun itself
 abbrev pub spawner : {A : Type 0} → List (Kept A) → Event A → Option TxnId
 spawner before (Spawn t c class) = if has_begun before t.0 then Some t else None
 spawner before _ = None
 
--- the parent of t: the one that spawned it at its start, where it has started so
+-- the parent of t: the transaction that spawned it, if it started by a spawn
 abbrev pub parent_of : {A : Type 0} → List (Kept A) → ℕ → Option TxnId
 parent_of h t = option_and_then (λ p. spawner p.before p.kept.event) (first (starts t) h)
 

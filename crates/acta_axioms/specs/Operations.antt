@@ -1,4 +1,4 @@
--- The operations of a history: who holds each, what became of it, and the sets of them.
+-- The operations of a history: holders, fates, and ACTA's sets of them.
 use Rattle.std.specs.Prelude.{ℕ, ◌+◌, Bool, true, false, ◌&&◌, ◌||◌, not, ◌==◌, List, drop, take, filter, filter_map, fold, find, count_by, if◌then◌else◌, Option, Some, None, option_map}
 use Rattle.std.specs.List.{list_any}
 use Rattle.std.specs.Option.{option_map_or}
@@ -17,7 +17,7 @@ use Rattle.acta_table.specs.Fates.{is_open, is_aborted}
 use Rattle.acta_axioms.specs.History.{Place, number, places, has_class, parent_of, ancestors}
 use Rattle.acta_axioms.specs.Permits.{is_permitted}
 
--- an operation of a history: its number, its place, and what was asked and returned there
+-- an operation of a history: its number, place, invoker, object and return
 pub record Operation : Type 0 where
   pub number : ℕ
   pub place : ℕ
@@ -31,11 +31,11 @@ abbrev pub is_operate : {A : Type 0} → Event A → Bool
 is_operate (Operate t object op) = true
 is_operate _ = false
 
--- operation m is the mth: the number of one that stands behind these items
+-- operations are numbered from 1: the number of an operation that follows these items
 abbrev pub number_after : {A : Type 0} → List (Kept A) → ℕ
 number_after before = count_by (λ k. is_operate k.event) before + 1
 
--- the operation that an event does at a place, if it does one
+-- the operation that an event does at a place, if it is an operation
 abbrev pub operation_in : {A : Type 0} → Place A → Event A → Option Operation
 operation_in p (Operate t object op) = Some (record {
   number = number_after p.before;
@@ -47,7 +47,7 @@ operation_in p (Operate t object op) = Some (record {
 })
 operation_in p _ = None
 
--- the operation that stands at a place, if one does
+-- the operation at a place, if its event is one
 abbrev pub operation_at : {A : Type 0} → Place A → Option Operation
 operation_at p = operation_in p p.kept.event
 
@@ -55,24 +55,25 @@ operation_at p = operation_in p p.kept.event
 abbrev pub operations : {A : Type 0} → List (Kept A) → List Operation
 operations h = filter_map operation_at (places h)
 
--- how an operation stands: who holds it, and its fate
+-- the holder and the fate of an operation
 pub record Standing : Type 0 where
   pub holder : ℕ
   pub fate : Fate
 
--- in progress, and held by t
+-- in progress, held by t
 abbrev pub held_by : ℕ → Standing
 held_by t = record { holder = t; fate = InProgress }
 
--- ended, and held by t to the last
+-- ended, last held by t
 abbrev pub ended_by : ℕ → Fate → Standing
 ended_by t fate = record { holder = t; fate = fate }
 
--- to whom what t holds goes when it commits: its parent, where its class says so and there is one
+-- the heir of t, which inherits its operations at its commit: its parent, if its class commits to parents and it has
+-- one
 abbrev pub heir : {A : Type 0} → Parts A → List (Kept A) → ℕ → Option TxnId
 heir m before t = if has_class (λ k. has_heir k.at_commit) m before t then parent_of before t else None
 
--- what becomes of operation o, which t holds in progress, at an event that stands behind these items
+-- the standing of operation o, which t holds in progress, after an event that follows these items
 abbrev pub followed : {A : Type 0} → Parts A → List (Kept A) → ℕ → ℕ → Event A → Standing
 followed m before o t (Split s u class ops) =
     if (s.0 == t) && is_named ops o then held_by u.0 else held_by t
@@ -84,24 +85,24 @@ followed m before o t (Commit s) =
 followed m before o t (Abort s) = if s.0 == t then ended_by t Aborted else held_by t
 followed m before o t _ = held_by t
 
--- operation o, one place further; once committed or aborted it stays so
+-- operation o, one place further; a committed or aborted operation does not change
 abbrev pub carried : {A : Type 0} → Parts A → ℕ → Standing → Place A → Standing
 carried m o s p = if is_open s.fate then followed m p.before o s.holder p.kept.event else s
 
--- how an operation of the history stands: held by its invoker at its own place, and followed from
--- there through all that stands behind it
+-- the standing of an operation at the end of the history: its invoker holds it at its own place, and later events are
+-- applied in order
 abbrev pub standing : {A : Type 0} → Parts A → List (Kept A) → Operation → Standing
 standing m h o = fold (carried m o.number) (held_by o.invoker) (drop o.place (places h))
 
--- how operation o of the history stands, if there is one
+-- the standing of operation o of the history, if there is one
 abbrev pub standing_of : {A : Type 0} → Parts A → List (Kept A) → ℕ → Option Standing
 standing_of m h o = option_map (standing m h) (find (λ q. q.number == o) (operations h))
 
--- the holder of operation o in the first n places
+-- the holder of operation o after the first n places
 abbrev pub holder_at : {A : Type 0} → Parts A → List (Kept A) → ℕ → ℕ → Option ℕ
 holder_at m h o n = option_map (λ s. s.holder) (standing_of m (take n h) o)
 
--- the fate of operation o in the first n places
+-- the fate of operation o after the first n places
 abbrev pub fate_at : {A : Type 0} → Parts A → List (Kept A) → ℕ → ℕ → Option Fate
 fate_at m h o n = option_map (λ s. s.fate) (standing_of m (take n h) o)
 
@@ -113,18 +114,18 @@ is_held_by t s = (s.holder == t) && is_open s.fate
 abbrev pub access_set : {A : Type 0} → Parts A → List (Kept A) → ℕ → List Operation
 access_set m h t = filter (λ o. is_held_by t (standing m h o)) (operations h)
 
--- whether t is exempt what u holds on the object: u is an ancestor of t, and t's class leaves out of its conflict set
--- what ancestors hold, or u has permitted t to work on the object
+-- whether u's operations on the object are exempt from conflicts with t: u is an ancestor of t and t's class exempts
+-- ancestors, or u has permitted t to work on the object
 abbrev pub is_exempt : {A : Type 0} → Parts A → List (Kept A) → ℕ → ℕ → ℕ → Bool
 is_exempt m h t object u =
     (has_class (λ k. exempts k.scope) m h t && list_any (λ a. a.0 == u) (ancestors h t)) || is_permitted h u t object
 
--- whether an operation on the object, with this holder and fate, is in progress, and its holder is another than t, and not exempt
+-- whether an operation on the object, with this standing, is in progress and held by another transaction that is not
+-- exempt
 abbrev pub is_of_others : {A : Type 0} → Parts A → List (Kept A) → ℕ → ℕ → Standing → Bool
 is_of_others m h t object s = is_open s.fate && not (s.holder == t) && not (is_exempt m h t object s.holder)
 
--- the conflict set of t: the operations in progress that others hold, where its class can leave out its ancestors, and
--- those who permit it leave out what they hold on the object
+-- the conflict set of t: the operations in progress that others hold and that are not exempt
 abbrev pub conflict_set : {A : Type 0} → Parts A → List (Kept A) → ℕ → List Operation
 conflict_set m h t = filter (λ o. is_of_others m h t o.object (standing m h o)) (operations h)
 

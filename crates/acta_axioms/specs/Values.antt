@@ -1,4 +1,4 @@
--- The values of objects by replay, what is due as a return, and which operations conflict.
+-- Values of objects by replay, the returns due, and which operations conflict.
 use Rattle.std.specs.Prelude.{ℕ, Bool, false, ◌&&◌, ◌==◌, List, filter, filter_map, if◌then◌else◌, Option, Some, None, option_map}
 use Rattle.std.specs.Option.{option_map_or}
 use Rattle.acta_table.specs.declared.event.Op.{Op}
@@ -12,31 +12,30 @@ use Rattle.acta_objects.specs.Objects.{first_state, state_after, returned, suits
 use Rattle.acta_objects.specs.Conflicts.{conflict_on}
 use Rattle.acta_axioms.specs.Operations.{Operation, view_set, conflict_set}
 
--- whether the operation is on an object of the model, and of its kind
+-- whether the object is in the model and its kind has the operation
 abbrev pub is_well_formed : {A : Type 0} → Parts A → ℕ → Op → Bool
 is_well_formed m object op = option_map_or (λ kind. suits kind op) (kind_at m object) false
 
--- what was asked of this object, if it suits its kind
+-- the operation itself, if it is on this object and belongs to its kind
 abbrev pub asked_of : ℕ → Kind → Operation → Option Op
 asked_of object kind o = if (o.object == object) && suits kind o.op then Some o.op else None
 
--- the value of an object of this kind: its first value, with the operations on it that are not
--- aborted, in order
+-- the value of an object of this kind: its initial value after the operations on it that are not aborted, in order
 abbrev pub value : {A : Type 0} → Parts A → List (Kept A) → ℕ → Kind → ObjectState A
 value m h object kind =
     state_after (first_state kind) (filter_map (asked_of object kind) (view_set m h))
 
--- what an operation has to return
+-- the return due for an operation
 abbrev pub return_due : {A : Type 0} → Parts A → List (Kept A) → ℕ → Op → Option Ret
 return_due m h object op =
     option_map (λ kind. returned (value m h object kind) op) (kind_at m object)
 
--- whether two operations on an object conflict; one that is ill formed conflicts with none
+-- whether two operations on an object conflict; an ill-formed operation conflicts with none
 abbrev pub do_conflict : {A : Type 0} → Parts A → ℕ → Op → Op → Bool
 do_conflict m object p q =
     is_well_formed m object p && (is_well_formed m object q && conflict_on m object p q)
 
--- the operations of t's conflict set that an operation on this object conflicts with
+-- the operations of t's conflict set that conflict with an operation on this object
 abbrev pub conflicting : {A : Type 0} → Parts A → List (Kept A) → ℕ → ℕ → Op → List Operation
 conflicting m h t object op =
     filter (λ o. (o.object == object) && do_conflict m object o.op op) (conflict_set m h t)

@@ -1,4 +1,4 @@
--- What a walk through a history is seen as: the items that it has taken, and those ahead.
+-- The abstract state of a walk through a history: the items taken, and the items ahead.
 use Rattle.std.specs.Prelude.{List, [], ◌∷◌, ◌++◌, map}
 use Rattle.acta_table.specs.declared.event.Kept.{Kept}
 use Rattle.acta_table.specs.declared.event.OpNo.{OpNo}
@@ -6,18 +6,18 @@ use Rattle.acta_table.specs.declared.model.Parts.{Parts}
 use Rattle.acta_sets.specs.declared.held_op.HeldOp.{HeldOp}
 use Rattle.acta_axioms.specs.Operations.{Operation, Standing, standing, operations}
 
--- a model, the items in front of the place that is reached, and those from it on
+-- a model, the items before the current place, and the items from it on
 pub record Walked (A : Type 0) : Type 0 where
   pub model : Parts A
   pub front : List (Kept A)
   pub ahead : List (Kept A)
 
--- the same, where these are ahead and one of them, if there is one, is taken
+-- the walk with these items ahead, after the first of them, if any, is taken
 abbrev pub with_next : {A : Type 0} → Walked A → List (Kept A) → Walked A
 with_next w [] = w
 with_next w (k ∷ ks) = record { model = w.model; front = w.front ++ k ∷ []; ahead = ks }
 
--- one item further; at the end of the history it stays
+-- the walk one item further; at the end of the history it is unchanged
 abbrev pub stepped : {A : Type 0} → Walked A → Walked A
 stepped w = with_next w w.ahead
 

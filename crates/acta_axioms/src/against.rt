@@ -1,5 +1,5 @@
-//! What stands against an operation on an object of a model, and which edges an event forms: one search for whoever walks
-//! through a history and for whoever admits events.
+//! Conflicting operations on an object of a model, and the edges that an event forms. Walks through a history and the
+//! machine share this search.
 
 ghost use Rattle.std.specs.Prelude.{◌≡◌, ℕ, Bool, false, ◌&&◌, ◌||◌, ◌==◌, [], None, IfOk, if◌then◌else◌};
 ghost use Rattle.std.specs.List.{list_any};
@@ -14,7 +14,7 @@ use acta_table::{Class, Edge, Event, Model, ObjId, Op, TxnId};
 use std::alloc::{AllocError, Allocator};
 use std::collections::BTreeSet;
 
-/// Whether the operation is of the kind of the object, which is in the model.
+/// Whether the object is in the model and its kind has the operation.
 pub fn is_well_formed<A: Allocator>(model: &Model<A>, object: ObjId, op: &Op) -> bool
     ensures { result ≡ is_well_formed model.now object.0 op.now }
 {
@@ -24,8 +24,8 @@ pub fn is_well_formed<A: Allocator>(model: &Model<A>, object: ObjId, op: &Op) ->
     }
 }
 
-/// Whether an operation of another, in progress, whom `t` doesn't spare, conflicts with this one on the object. One that
-/// is ill formed conflicts with none.
+/// Whether an operation in progress, held by another transaction that is not exempt, conflicts with this one on the
+/// object. An ill-formed operation conflicts with none.
 pub fn has_conflict<A: Handle>(
     model: &Model<A>,
     operations: &OpTable<A>,
@@ -39,8 +39,8 @@ pub fn has_conflict<A: Handle>(
     is_well_formed(model, object, op) && operations.has_conflict(t, exempts, object, op)
 }
 
-/// Whether an operation of another, in progress, conflicts with this one on the object, whomever `t` may spare. Where
-/// none does, none stands against it, and whom `t` exempts need not be found out.
+/// Whether an operation in progress of another transaction, exempt or not, conflicts with this one on the object. If
+/// none does, the exempt transactions need not be found out.
 pub fn may_conflict<A: Handle>(
     alloc: A,
     model: &Model<A>,
@@ -54,7 +54,7 @@ pub fn may_conflict<A: Handle>(
     has_conflict(model, operations, t, &BTreeSet::new(alloc), object, op)
 }
 
-/// The number of the first operation that does.
+/// The number of the first conflicting operation.
 pub fn first_conflict<A: Handle>(
     model: &Model<A>,
     operations: &OpTable<A>,
@@ -72,7 +72,7 @@ pub fn first_conflict<A: Handle>(
     }
 }
 
-/// Who holds those that do.
+/// The conflicting holders.
 pub fn holders_against<A: Handle>(
     alloc: A,
     model: &Model<A>,
@@ -91,7 +91,7 @@ pub fn holders_against<A: Handle>(
     }
 }
 
-/// The set, with these transactions too.
+/// Adds these transactions to the set.
 pub fn with_txns<A: Allocator + Copy>(
     numbers: BTreeSet<u16, A>,
     txns: &[TxnId],
@@ -105,8 +105,8 @@ pub fn with_txns<A: Allocator + Copy>(
     Ok(all)
 }
 
-/// The edges that an event wants that is no operation, in order: those that the class named wants of a spawn or a
-/// split, and none where it is not among these; and the one that is formed.
+/// The edges that an event other than an operation forms, in order: the start edges of the class that a spawn or a
+/// split names, if it is among these classes, or the edge of a form event.
 pub fn edges_wanted<A: Allocator + Copy>(
     alloc: A,
     classes: &[Class<A>],

@@ -1,8 +1,8 @@
 ghost use Rattle.std.specs.Prelude.{◌≡◌, ◌&&◌, not, is_some};
 ghost use Rattle.acta_axioms.specs.History.{least, end};
 
-/// The first places of a transaction's start, of its commit, its abort and its join, from 1 on: ACTA's
-/// initiation and terminations, begun or not. `None` where there is no such place.
+/// The first places, from 1, of a transaction's start, commit, abort and join, whether or not it has begun. `None` if
+/// there is no such place.
 #[derive(Clone, Copy, PartialEq, Eq, Debug)]
 pub struct Course {
     pub start: Option<u32>,
@@ -11,7 +11,7 @@ pub struct Course {
     pub join: Option<u32>,
 }
 
-// The smaller of two places, of those that are there.
+// The smaller of two places, or the only one.
 fn least(m: Option<u32>, n: Option<u32>) -> Option<u32>
     ensures { result ≡ least m n }
 {
@@ -25,14 +25,14 @@ fn least(m: Option<u32>, n: Option<u32>) -> Option<u32>
 }
 
 impl Course {
-    /// Where the transaction first committed or aborted.
+    /// The place where the transaction first committed or aborted.
     pub fn decided(self) -> Option<u32>
         ensures { result ≡ least self.commit self.abort }
     {
         least(self.commit, self.abort)
     }
 
-    /// Where the transaction first ended, in any way.
+    /// The place where the transaction first ended, in any way.
     pub fn end(self) -> Option<u32>
         ensures { result ≡ end self }
     {
@@ -46,7 +46,7 @@ impl Course {
         self.start.is_some()
     }
 
-    /// Whether the transaction has ended, also where it never started.
+    /// Whether the transaction has ended, even if it never started.
     pub fn has_ended(self) -> bool
         ensures { result ≡ is_some (end self) }
     {

@@ -8,9 +8,9 @@ ghost use Rattle.acta_axioms.specs.Axioms.{axiom_number};
 use acta_table::Dep;
 use std::cmp::Ordering;
 
-/// The axioms that a history can break: the first four are ACTA's own, on the significant events; those up to the
-/// thirteenth say by places what the model and the objects ask (our list); the last two are ACTA's on dependencies, and
-/// ours on debts. They are compared by their numbers.
+/// The axioms that a history can break. The first four are ACTA's, on the significant events. Those up to the
+/// thirteenth are conditions of the model and its objects on single places. The last two are on dependencies and debts.
+/// Axioms are ordered by their numbers.
 #[derive(Clone, Copy, Debug)]
 pub enum Axiom {
     /// A transaction begins at most once.
@@ -21,34 +21,35 @@ pub enum Axiom {
     EndedOnce,
     /// Only a transaction in progress does operations.
     OperatesInProgress,
-    /// Numbers, classes, objects and operations are those of the model, and no event names one transaction twice.
+    /// Numbers, classes, objects and operations exist in the model, and no event names one transaction twice.
     FormOfEvent,
-    /// Classes start, act and form edges only as the model lets them.
+    /// Classes start, act and form edges only as the model allows.
     Allowed,
-    /// Only transactions in progress spawn, split or hand operations over, and only such are joined or handed
-    /// any.
+    /// Only transactions in progress spawn, split, delegate or permit, and only such transactions are joined, delegated
+    /// to or permitted.
     PartiesInProgress,
-    /// A transaction hands over only operations that it holds in progress.
+    /// A transaction transfers only operations that it holds in progress.
     Responsible,
-    /// One whose class wants it hands over all that it holds in progress.
+    /// A transaction whose class requires it transfers all that it holds in progress.
     HandsWhole,
-    /// Where the class refuses it, no operation conflicts with one of its transaction's conflict set: with one
-    /// in progress that another holds, who is no ancestor that the class leaves out.
+    /// If the class refuses conflicts, no operation conflicts with one in its transaction's conflict set: one in
+    /// progress, held by another transaction, and not exempt.
     Conflict,
-    /// Operations return what their replay does, and nothing else returns anything.
+    /// Each operation has the return that replay gives, and no other event has a return.
     Return,
-    /// One that commits to its parent has a parent in progress.
+    /// A transaction that commits to its parent has a parent in progress.
     Heir,
-    /// An edge of a begin kind is formed before its first transaction begins, another before either ends.
+    /// A form event forms an edge of a begin kind before the dependent transaction begins, and any other edge before
+    /// either transaction ends.
     FormedInTime,
-    /// The formula of each edge of this kind holds, or what would make it true is owed.
+    /// The formula of each edge of this kind is true, or the event that would make it true is owed.
     Dependency(Dep),
     /// No transaction owes both a commit and an abort.
     Clash,
 }
 
 impl Axiom {
-    /// The number of the axiom: from 1 to 13, or from 21 to 33 where it is on dependencies and debts.
+    /// The number of the axiom: from 1 to 13, or from 21 to 33 for dependencies and debts.
     #[tactic(auto, unfolding(crate::specs::Axioms::axiom_number))]
     pub fn number(self) -> u8
         ensures { result ≡ axiom_number self }
@@ -111,9 +112,9 @@ impl PartialOrd for Axiom {
     }
 }
 
-/// A fault of a history: the axiom that is broken, the place, from 1, and the number of the transaction, operation or
-/// edge by which it is broken (0 where a return stands at no operation, and where there is no parent). Faults are
-/// ordered by the axiom's number, then by place, then by number.
+/// A fault of a history: the axiom broken, the place, from 1, and the number of the transaction, operation or edge that
+/// breaks it (0 for a return of an event that is no operation, and for a missing parent). Faults are ordered by axiom
+/// number, place and number.
 #[derive(Clone, Copy, PartialEq, Eq, PartialOrd, Ord, Debug)]
 pub struct Fault {
     pub broken: Axiom,

@@ -14,7 +14,7 @@ use std::hash::{BuildHasherDefault, FoldHasher};
 /// Edges in order of forming, each once.
 pub type Formed<A> = IndexSet<Edge, BuildHasherDefault<FoldHasher>, A>;
 
-// Puts the edge behind the others, unless it is among them. On `Err` it is not.
+// Appends the edge unless it is in the list. On `Err` the list is unchanged.
 fn form<A: Allocator>(edges: &mut Formed<A>, edge: Edge) -> Result<(), AllocError>
     ensures formed { OnOk result (edges.new.keys ≡ with_edge edges.old.keys edge) }
     ensures err { OnErr result (edges.new.keys ≡ edges.old.keys) }
@@ -25,7 +25,7 @@ fn form<A: Allocator>(edges: &mut Formed<A>, edge: Edge) -> Result<(), AllocErro
     }
 }
 
-// Puts the edges behind the others, each once. `Err` if memory runs out, with some of them put.
+// Appends the edges, each once. On `Err` some of them may have been appended.
 fn form_each<A: Allocator>(edges: &mut Formed<A>, more: &[Edge]) -> Result<(), AllocError>
     ensures formed { OnOk result (edges.new.keys ≡ formed edges.old.keys more.now) }
     ensures before { take (length edges.old.keys) edges.new.keys ≡ edges.old.keys }
@@ -36,7 +36,7 @@ fn form_each<A: Allocator>(edges: &mut Formed<A>, more: &[Edge]) -> Result<(), A
     Ok(())
 }
 
-/// Puts the edges behind the others, each once. On `Err` none is put.
+/// Appends the edges, each once. On `Err` none is appended.
 pub(crate) fn form_all<A: Allocator>(edges: &mut Formed<A>, more: &[Edge]) -> Result<(), AllocError>
     ensures formed { OnOk result (edges.new.keys ≡ formed edges.old.keys more.now) }
     ensures before { OnOk result (take (length edges.old.keys) edges.new.keys ≡ edges.old.keys) }
@@ -67,7 +67,7 @@ impl<'a, A: Handle> Walk<'a, A> {
         class.policy.edges_upon(self.allocator(), t, &holders)
     }
 
-    /// The edges that the event forms, which stands at the place that is reached.
+    /// The edges that the event at the current place forms.
     pub(crate) fn edges_due(&self, event: &Event<A>) -> Result<Vec<Edge, A>, AllocError>
         ensures { IfOk result (λ edges. edges.items ≡ formed_by self.now.model self.now.front event.now) }
     {

@@ -3,7 +3,7 @@ ghost use Rattle.std.specs.Prelude.{◌≡◌, ◌<◌, ◌==◌, ℕ, [], ◌�
 use acta_table::TxnId;
 use std::alloc::{AllocError, Allocator};
 
-/// Items by the number of their transaction. Contracts see a list for each number up to the largest that was named.
+/// Items grouped by transaction number. Contracts see a list for each number up to the largest that was named.
 #[derive(Drop)]
 pub struct Groups<T, A: Allocator> {
     lists: Vec<Vec<T, A>, A>,
@@ -27,7 +27,7 @@ impl<T: Copy, A: Allocator + Copy> Groups<T, A> {
         }
     }
 
-    // Makes the list of the transaction, if there is none, with no other change.
+    // Extends the table so that the transaction has a list. Nothing else changes.
     fn make_room(&mut self, t: TxnId) -> Result<(), AllocError>
         ensures same { (u : ℕ) → get_or self.new u [] ≡ get_or self.old u [] }
         ensures room { OnOk result (t.0 < length self.new) }
@@ -39,7 +39,7 @@ impl<T: Copy, A: Allocator + Copy> Groups<T, A> {
         Ok(())
     }
 
-    /// Appends an item to those of the transaction. Returns `Err` if memory runs out; then the items stay as they were.
+    /// Appends an item to the transaction's list. On `Err` the items are unchanged.
     pub fn put(&mut self, t: TxnId, item: T) -> Result<(), AllocError>
         ensures ok { OnOk result ((u : ℕ) → get_or self.new u [] ≡ get_or self.old u [] ++ (if t.0 == u then item ∷ [] else [])) }
         ensures err { OnErr result ((u : ℕ) → get_or self.new u [] ≡ get_or self.old u []) }
@@ -50,7 +50,7 @@ impl<T: Copy, A: Allocator + Copy> Groups<T, A> {
         Ok(())
     }
 
-    /// The items of the transaction with this number, in the order in which they were put in.
+    /// The items of the transaction with this number, in the order in which they were added.
     pub fn of(&self, t: usize) -> &[T]
         ensures { result.now ≡ get_or self.now t [] }
     {

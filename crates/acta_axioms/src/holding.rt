@@ -5,7 +5,7 @@ use acta_sets::HeldOp;
 use acta_table::{Event, Fate, TxnId};
 use std::alloc::Allocator;
 
-// The operation, in the hand of u where it goes to u.
+// The operation, held by u if `goes`.
 fn transferred(item: HeldOp, goes: bool, u: TxnId) -> HeldOp
     ensures { result ≡ (if goes then in_hand u item else item) }
 {
@@ -16,15 +16,14 @@ fn transferred(item: HeldOp, goes: bool, u: TxnId) -> HeldOp
     }
 }
 
-// The operation, ended so where it ends.
+// The operation, with the fate if `ends`.
 fn ended(item: HeldOp, ends: bool, fate: Fate) -> HeldOp
     ensures { result ≡ (if ends then ended_so fate item else item) }
 {
     if ends { HeldOp { fate, ..item } } else { item }
 }
 
-// How an operation of this number, in progress, stands behind the event, given the heir of the one that commits
-// by it.
+// The operation with this number, in progress, after the event, given the heir of the transaction that commits by it.
 fn held_behind<A: Allocator>(
     heir: Option<TxnId>,
     event: &Event<A>,
@@ -55,7 +54,7 @@ fn held_behind<A: Allocator>(
     }
 }
 
-/// The operation of this number, one event further, given the heir of the one that commits by the event.
+/// The operation with this number after the event, given the heir of the transaction that commits by it.
 pub fn brought<A: Allocator>(
     heir: Option<TxnId>,
     event: &Event<A>,
@@ -71,7 +70,7 @@ pub fn brought<A: Allocator>(
     }
 }
 
-/// The operation that the event is, in the hand of its invoker.
+/// The operation that the event does, held by its invoker.
 pub fn op_done<A: Allocator>(event: &Event<A>) -> Option<HeldOp>
     ensures { result ≡ op_done event.now }
 {

@@ -1,8 +1,7 @@
-//! The meaning of a history, by its places alone: what ACTA says of any list of kept items, legal or
-//! not. The definitions stand in `specs/`: where transactions start and end, who holds each operation and
-//! what became of it, the values by replay, the edges and what is owed by them, and which axiom each place
-//! breaks. A `Walk` goes through a history from its front, one item at a time, and answers what stands
-//! before the place that it has reached; `Places` answers questions about a whole history.
+//! The meaning of a history by its places alone: what ACTA says of any list of kept items, legal or not. The
+//! definitions are in `specs/`: where transactions start and end, the holder and fate of each operation, values by
+//! replay, edges and debts, and which axiom each place breaks. A `Walk` goes through a history one item at a time and
+//! answers questions about the state before its current place. `Places` answers questions about a whole history.
 //!
 //! A call that allocates returns `Err` if memory runs out.
 #![tactic(auto)]

@@ -10,9 +10,8 @@ use acta_sets::{Handle, HeldOp};
 use acta_table::{Edge, Fate, Kept, MOST_EVENTS, Model, OpNo, TxnId};
 use std::alloc::AllocError;
 
-/// A model and a list of kept items, legal or not, to be asked by places, as ACTA speaks of histories. The list is
-/// walked through once, for the first places and the edges; a question about an operation follows it along the list.
-/// Contracts see the model and the list.
+/// A model and a list of kept items, legal or not, queried by places. First places and edges are computed by one walk;
+/// a query about an operation follows it along the list. Contracts see the model and the list.
 #[derive(Drop)]
 pub struct Places<'a, A: Handle> {
     walk: Walk<'a, A>,
@@ -30,7 +29,7 @@ impl<'a, A: Handle> std::marker::Model for Places<'a, A> {
 }
 
 impl<'a, A: Handle> Places<'a, A> {
-    /// The places of a list of at most 65,536 items. `Err` if memory runs out for the walk.
+    /// Walks through a list of at most 65,536 items.
     pub fn of(
         alloc: A,
         model: &'a Model<A>,
@@ -48,7 +47,7 @@ impl<'a, A: Handle> Places<'a, A> {
 }
 
 impl<'a, A: Handle> Places<'a, A> {
-    // How the operation stands among the first n places, if it is among them.
+    // The standing of the operation after the first n places, if it is among them.
     fn held(&self, op: OpNo, n: u32) -> Option<HeldOp>
         ensures { option_map standing_in result ≡ standing_of self.now.model (take n self.now.history) op.0 }
     {
@@ -62,8 +61,8 @@ impl<'a, A: Handle> Places<'a, A> {
         self.walk.course(t)
     }
 
-    /// The first place, from 1, at which the transaction begins. `None` where it never does, and for each number that
-    /// the list doesn't name.
+    /// The first place, from 1, at which the transaction begins, or `None` if it never does or the list does not name
+    /// it.
     pub fn start(&self, t: TxnId) -> Option<u32>
         ensures { result ≡ (course self.now.history t.0).start }
     {
@@ -91,7 +90,7 @@ impl<'a, A: Handle> Places<'a, A> {
         self.course(t).join
     }
 
-    /// Who holds the operation after the first n places, or after all where there are fewer. `None` where the operation
+    /// The holder of the operation after the first n places, or after all if there are fewer. `None` if the operation
     /// is not among them.
     pub fn holder(&self, op: OpNo, n: u32) -> Option<TxnId>
         ensures { option_map (λ t. t.0) result ≡ holder_at self.now.model self.now.history op.0 n }
@@ -100,8 +99,8 @@ impl<'a, A: Handle> Places<'a, A> {
         Some(held.holder)
     }
 
-    /// What became of the operation after the first n places, or after all where there are fewer. `None` where the
-    /// operation is not among them.
+    /// The fate of the operation after the first n places, or after all if there are fewer. `None` if the operation is
+    /// not among them.
     pub fn fate(&self, op: OpNo, n: u32) -> Option<Fate>
         ensures { result ≡ fate_at self.now.model self.now.history op.0 n }
     {
@@ -109,8 +108,8 @@ impl<'a, A: Handle> Places<'a, A> {
         Some(held.fate)
     }
 
-    /// The edges that the events form, legal or not, in order of forming. Each is in force once, however often it is
-    /// formed, and the first has the number 1.
+    /// The edges that the events form, legal or not, in order of forming, numbered from 1. An edge that is formed again
+    /// is not added again.
     pub fn edges(&self) -> &[Edge]
         ensures { result.now ≡ edges self.now.model self.now.history }
     {

@@ -19,12 +19,12 @@ use acta_table::{Fate, ObjId, Op, OpNo, Scope, TxnId};
 use std::alloc::AllocError;
 use std::collections::BTreeSet;
 
-/// What is looked for among the operations, for a transaction.
+/// A search among the operations, for a transaction.
 #[derive(Clone, Copy)]
 pub enum Sought {
-    /// Those in progress that others hold: ACTA's conflict set.
+    /// The conflict set: operations in progress that others hold and that are not exempt.
     Others,
-    /// Those of its conflict set that conflict with this operation on this object.
+    /// The operations of the conflict set that conflict with this operation on this object.
     Against(ObjId, Op),
 }
 
@@ -50,7 +50,7 @@ impl<'a, A: Handle> Walk<'a, A> {
         Ok(numbers)
     }
 
-    // Whether the transaction's class leaves its ancestors out of its conflict set.
+    // Whether the transaction's class exempts ancestors.
     fn exempts_ancestors(&self, t: TxnId) -> bool
         ensures { result ≡ has_class (λ k. exempts k.scope) self.now.model self.now.front t.0 }
     {
@@ -60,7 +60,7 @@ impl<'a, A: Handle> Walk<'a, A> {
         }
     }
 
-    // The ancestors of the transaction that its class leaves out of its conflict set.
+    // The ancestors of the transaction that its class exempts.
     fn exempt_numbers(&self, t: TxnId) -> Result<BTreeSet<u16, A>, AllocError>
         ensures { IfOk result (λ numbers. numbers.keys ≡ exempt_numbers self.now.model self.now.front t.0) }
     {
@@ -92,7 +92,7 @@ impl<'a, A: Handle> Walk<'a, A> {
         self.permits.has(s, t, object)
     }
 
-    // Those who permit the transaction to work on the object.
+    // The transactions that permit the transaction to work on the object.
     fn permitters(&self, t: TxnId, object: ObjId) -> Result<Vec<TxnId, A>, AllocError>
         ensures { IfOk result (λ found. (u : ℕ) → list_any (λ s. s.0 == u) found.items ≡ is_permitted self.now.front u t.0 object.0) }
     {
@@ -106,8 +106,8 @@ impl<'a, A: Handle> Walk<'a, A> {
         Ok(found)
     }
 
-    /// Those whose operations on the object the transaction is exempt: ancestors that its class leaves out of its
-    /// conflict set, and those who permit it to work there.
+    /// The transactions whose operations on the object are exempt from conflicts with the transaction: ancestors, if
+    /// its class exempts them, and those that permit it to work there.
     pub(crate) fn exempt_on(&self, t: TxnId, object: ObjId) -> Result<BTreeSet<u16, A>, AllocError>
         ensures { IfOk result (λ numbers. AreExempt self.now.model self.now.front t.0 object.0 numbers.keys) }
     {
@@ -115,7 +115,7 @@ impl<'a, A: Handle> Walk<'a, A> {
         with_txns(self.exempt_numbers(t)?, &permitters)
     }
 
-    // Whether t, who exempts these ancestors, is exempt what u holds on the object.
+    // Whether u's operations on the object are exempt from conflicts with t, whose exempt ancestors are given.
     fn is_exempt(&self, t: TxnId, exempt: &BTreeSet<u16, A>, object: ObjId, u: TxnId) -> bool
         requires { exempt.now.keys ≡ exempt_numbers self.now.model self.now.front t.0 }
         ensures { result ≡ is_exempt self.now.model self.now.front t.0 object.0 u.0 }
@@ -123,7 +123,7 @@ impl<'a, A: Handle> Walk<'a, A> {
         exempt.contains(&u.0) || self.is_permitted(u, t, object)
     }
 
-    // Whether the operation is in the conflict set of the transaction, which exempts these ancestors.
+    // Whether the operation is in the conflict set of the transaction, whose exempt ancestors are given.
     fn is_of_others(&self, t: TxnId, exempt: &BTreeSet<u16, A>, item: &HeldOp) -> bool
         requires { exempt.now.keys ≡ exempt_numbers self.now.model self.now.front t.0 }
         ensures { result ≡ is_of_others self.now.model self.now.front t.0 item.now.ob.0 (standing_in item.now) }
@@ -143,7 +143,7 @@ impl<'a, A: Handle> Walk<'a, A> {
         }
     }
 
-    // Whether the operation is on this object and in the transaction's conflict set, which exempts these, and
+    // Whether the operation is on this object, in the conflict set of the transaction, given those exempt, and
     // conflicts with this one.
     fn is_against(
         &self,
@@ -161,16 +161,16 @@ impl<'a, A: Handle> Walk<'a, A> {
             && self.do_conflict(object, &item.op, op)
     }
 
-    /// Whether an operation of another on this object, in progress, conflicts with this one, whomever the transaction
-    /// exempts. Where none does, none of its conflict set does.
+    /// Whether an operation in progress of another on this object conflicts with this one, exempt or not. If none does,
+    /// none of the conflict set does.
     pub(crate) fn may_conflict(&self, t: TxnId, object: ObjId, op: &Op) -> bool
         ensures { result ≡ false → list_any (is_against self.now.model self.now.front t.0 object.0 op.now) (held_ops self.now.model self.now.front) ≡ false }
     {
         against::may_conflict(self.allocator(), self.model, self.table(), t, object, op)
     }
 
-    /// Whether an operation on this object and in the transaction's conflict set, which exempts these, conflicts with
-    /// this one.
+    /// Whether an operation on this object in the transaction's conflict set, given those exempt, conflicts with this
+    /// one.
     pub(crate) fn has_conflict(
         &self,
         t: TxnId,
@@ -184,7 +184,7 @@ impl<'a, A: Handle> Walk<'a, A> {
         against::has_conflict(self.model, self.table(), t, exempt, object, op)
     }
 
-    // Whether the operation is one of those that are looked for, for a transaction that exempts these.
+    // Whether the operation matches the search of a transaction, given its exempt ancestors.
     fn is_sought(&self, t: TxnId, exempt: &BTreeSet<u16, A>, sought: &Sought, item: &HeldOp) -> bool
         requires { exempt.now.keys ≡ exempt_numbers self.now.model self.now.front t.0 }
         ensures { result ≡ is_sought self.now.model self.now.front t.0 sought.now item.now }
@@ -195,7 +195,7 @@ impl<'a, A: Handle> Walk<'a, A> {
         }
     }
 
-    /// The numbers of the operations that are looked for, ascending.
+    /// The numbers of the operations that match the search, ascending.
     pub(crate) fn seek(&self, t: TxnId, sought: &Sought) -> Result<Vec<OpNo, A>, AllocError>
         ensures { IfOk result (λ numbers. numbers.items ≡ numbers_of (is_sought self.now.model self.now.front t.0 sought.now) (held_ops self.now.model self.now.front)) }
     {
@@ -211,7 +211,7 @@ impl<'a, A: Handle> Walk<'a, A> {
         Ok(numbers)
     }
 
-    /// Who holds the operations of t's conflict set that an operation of t on the object conflicts with.
+    /// The conflicting holders for an operation of t on the object.
     pub(crate) fn holders_against(
         &self,
         t: TxnId,

@@ -1,10 +1,10 @@
-//! The axioms in words: what each is called, and what it says in a sentence.
+//! Names and one-sentence descriptions of the axioms.
 
 use crate::fault::Axiom;
 use std::fmt;
 
 impl Axiom {
-    /// The name of the axiom; of one on dependencies the short name of their kind.
+    /// The name of the axiom; for a dependency the short name of its kind.
     pub fn name(self) -> &'static str {
         match self {
             Axiom::BegunOnce => "BegunOnce",
@@ -25,7 +25,7 @@ impl Axiom {
         }
     }
 
-    /// What the axiom says of a history, in a sentence.
+    /// Describes in a sentence what the axiom requires of a history.
     pub fn sentence(self) -> &'static str {
         match self {
             Axiom::BegunOnce => {
@@ -61,7 +61,7 @@ impl Axiom {
                 "A transaction whose class has `commit toparent` commits only while it has a parent in progress."
             }
             Axiom::FormedInTime => {
-                "An edge of a begin kind is formed before the transaction that depends begins, and any other edge before one of the two transactions ends."
+                "A form event forms an edge of a begin kind before the dependent transaction begins, and any other edge before either transaction ends."
             }
             Axiom::Dependency(kind) => kind.sentence(),
             Axiom::Clash => "No transaction owes both a commit and an abort.",

@@ -7,7 +7,7 @@ use crate::groups::Groups;
 use acta_table::{Event, Items, Kept, MOST_EVENTS, Model, ObjId, Op, OpNo, Ret, TxnId};
 use std::alloc::{AllocError, Allocator};
 
-/// An operation of a serial order: its number, who held it to the last, and what was asked and returned.
+/// An operation of a serial order: its number, last holder, object, operation and return.
 #[derive(Clone, Copy, PartialEq, Eq, Debug)]
 pub struct SerialItem {
     pub number: OpNo,
@@ -17,7 +17,7 @@ pub struct SerialItem {
     pub ret: Ret,
 }
 
-// The operations of the history, by who did them.
+// The operations of the history, grouped by invoker.
 fn grouped<A: Allocator + Copy>(
     alloc: A,
     kept: &[Kept<A>],
@@ -57,7 +57,7 @@ fn committed_by<A: Allocator>(event: &Event<A>) -> Option<TxnId>
     }
 }
 
-// The groups of those that commit, in the order of their commits.
+// The groups of the transactions that commit, in the order of their commits.
 fn in_commit_order<A: Allocator + Copy>(
     alloc: A,
     kept: &[Kept<A>],
@@ -74,9 +74,9 @@ fn in_commit_order<A: Allocator + Copy>(
     Ok(items)
 }
 
-/// The serial order of a history of a strict model that breaks no axiom at a place: its committed operations, in groups
-/// by who held them, the groups in the order of the commits, each in the order of the history. Done in this order from
-/// the objects' first values, with nothing else, each returns what it returned in the history.
+/// Returns the serial order of a history of a strict model that breaks no axiom at a place: the committed operations,
+/// grouped by holder, in the order of the commits, and within a group in the order of the history. Replayed in this
+/// order from the initial values, each operation returns what it returned in the history.
 pub fn serial_items<A: Allocator + Copy>(
     alloc: A,
     model: &Model<A>,

@@ -4,8 +4,8 @@ ghost use Rattle.acta_axioms.specs.Serial.{is_strict_class, is_strict};
 use acta_table::{Class, EventKind, Model, Scope};
 use std::alloc::Allocator;
 
-// Whether the class starts by begin at most, conflicts with all others, refuses where it conflicts, and may not spawn,
-// split, join, delegate or permit.
+// Whether the class cannot be spawned or split off, exempts no ancestors, refuses conflicting operations, and may not
+// spawn, split, join, delegate or permit.
 fn is_strict_class<A: Allocator>(class: &Class<A>) -> bool
     ensures { result ≡ is_strict_class class.now }
 {
@@ -20,8 +20,8 @@ fn is_strict_class<A: Allocator>(class: &Class<A>) -> bool
         && !class.may.has(EventKind::Permit)
 }
 
-/// Whether the model is strict: each class starts by begin at most, conflicts with all others, refuses where it
-/// conflicts, and may not spawn, split, join, delegate or permit.
+/// Whether the model is strict: no class can be spawned or split off; each exempts no ancestors, refuses conflicting
+/// operations, and may not spawn, split, join, delegate or permit.
 pub fn is_strict<A: Allocator>(model: &Model<A>) -> bool
     ensures { result ≡ is_strict model.now }
 {

@@ -10,8 +10,8 @@ use acta_table::{Edge, Event, Fate, MOST_EVENTS, TxnId};
 use acta_values::Store;
 use std::alloc::AllocError;
 
-// Brings the operations one event further, and puts the one that the event is behind them, given the heir of the one
-// that commits by it. On `Err` they stay as they were.
+// Applies the event to the operations, and appends its own operation if it does one, given the heir of the transaction
+// that commits by it. On `Err` they are unchanged.
 fn follow<A: Handle>(
     heir: Option<TxnId>,
     event: &Event<A>,
@@ -41,7 +41,7 @@ fn follow<A: Handle>(
     }
 }
 
-// Drops the permits that name the one that the event ends.
+// Drops the permits of the transaction that the event ends.
 fn drop_ended<A: Handle>(event: &Event<A>, permits: &mut Permits<A>)
     ensures { permitted permits.new ≡ permits_left event.now (permitted permits.old) }
 {
@@ -51,7 +51,7 @@ fn drop_ended<A: Handle>(event: &Event<A>, permits: &mut Permits<A>)
     }
 }
 
-// Brings operations and permits one event further. On `Err` both stay as they were.
+// Applies the event to operations and permits. On `Err` both are unchanged.
 fn follow_all<A: Handle>(
     before: Before,
     event: &Event<A>,
@@ -76,16 +76,16 @@ fn follow_all<A: Handle>(
     Ok(())
 }
 
-/// What has to be known of what stands before an event: the heir of the one that commits by it, and whether it permits
-/// something to one that has ended, or by one.
+/// The context needed to apply an event: the heir of the transaction that commits by it, and whether it is a permit by
+/// or for a transaction that has ended.
 #[derive(Clone, Copy)]
 pub struct Before {
     pub heir: Option<TxnId>,
     pub is_late: bool,
 }
 
-/// Brings operations and permits one event further, as `follow`, and puts the edges that are due behind the others,
-/// each once. On `Err` all stay as they were.
+/// Applies the event to operations and permits, as `follow` does, and appends the edges due, each once. On `Err` all
+/// are unchanged.
 pub(crate) fn go_on<A: Handle>(
     before: Before,
     event: &Event<A>,

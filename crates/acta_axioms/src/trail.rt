@@ -10,8 +10,8 @@ use acta_sets::{Handle, HeldOp};
 use acta_table::{Event, OpNo, TxnId};
 use std::alloc::Allocator;
 
-// How operation `op` stands one event further, where the next operation has this number, given the heir of the one
-// that commits by the event.
+// Operation `op` after the event, given the number of the next operation and the heir of the transaction that commits
+// by the event.
 fn followed_on<A: Allocator>(
     heir: Option<TxnId>,
     event: &Event<A>,
@@ -27,7 +27,7 @@ fn followed_on<A: Allocator>(
     }
 }
 
-// The number of the next operation behind the event, where this was that of the next before it.
+// The number of the next operation after the event, given the number before it.
 fn next_number<A: Allocator>(event: &Event<A>, number: usize) -> usize
     requires { number < 2 ^ 32 }
     ensures { result ≡ next_number event.now number }
@@ -39,7 +39,7 @@ fn next_number<A: Allocator>(event: &Event<A>, number: usize) -> usize
 }
 
 impl<'a, A: Handle> Walk<'a, A> {
-    /// How the operation stands among the first n of the items taken, if it is among them: followed along them.
+    /// The operation after the first n items taken, if it is among them, found by following it along them.
     pub(crate) fn standing(&self, op: OpNo, n: u32) -> Option<HeldOp>
         ensures { option_map standing_in result ≡ standing_of self.now.model (take n self.now.front) op.0 }
     {

@@ -9,7 +9,7 @@ use crate::course::Course;
 use acta_table::{AtCommit, ClassId, Event, Kept, Model, TxnId};
 use std::alloc::Allocator;
 
-/// What is known of a transaction: its course, the class that it started with, and its parent.
+/// The record of a transaction: its course, the class that it started with, and its parent.
 #[derive(Clone, Copy, PartialEq, Eq, Debug)]
 pub struct TxnRecord {
     pub course: Course,
@@ -17,7 +17,7 @@ pub struct TxnRecord {
     pub parent: Option<TxnId>,
 }
 
-/// The lineage of one that no item names.
+/// The record of a transaction that no item names.
 pub const UNBEGUN: TxnRecord = TxnRecord {
     course: Course {
         start: None,
@@ -29,7 +29,7 @@ pub const UNBEGUN: TxnRecord = TxnRecord {
     parent: None,
 };
 
-// The larger number of a transaction that the event names.
+// The largest transaction number that the event names.
 fn largest_in<A: Allocator>(event: &Event<A>) -> u16
     ensures { All (λ t. t ≤ result) (named event.now) }
 {
@@ -61,7 +61,7 @@ pub fn largest_named<A: Allocator>(kept: &[Kept<A>]) -> u16
     largest
 }
 
-/// The lineage of the transaction by the table, which has none for those behind its end.
+/// The transaction's record in the table, which has none past its end.
 pub fn record_of(lines: &[TxnRecord], t: TxnId) -> TxnRecord
     ensures { result ≡ get_or lines.now t.0 unbegun }
 {
@@ -71,7 +71,7 @@ pub fn record_of(lines: &[TxnRecord], t: TxnId) -> TxnRecord
     }
 }
 
-// The place that was there, or else this one.
+// The earlier place, or this one if there is none.
 fn or_at(place: u32, first: Option<u32>) -> Option<u32>
     ensures { result ≡ or_at place first }
 {
@@ -81,7 +81,7 @@ fn or_at(place: u32, first: Option<u32>) -> Option<u32>
     }
 }
 
-// The lineage of one that starts at this place, with this class and parent, unless it has started before.
+// The record of a transaction that starts at this place, with this class and parent, unless it has started before.
 fn started(place: u32, class: ClassId, parent: Option<TxnId>, line: TxnRecord) -> TxnRecord
     ensures { result ≡ started place class parent line }
 {
@@ -100,7 +100,7 @@ fn started(place: u32, class: ClassId, parent: Option<TxnId>, line: TxnRecord) -
     }
 }
 
-// The one that spawns, as a parent: where it has begun.
+// The spawning transaction as a parent, if it has begun.
 fn spawner(lines: &[TxnRecord], t: TxnId) -> Option<TxnId>
     ensures { result ≡ (if begun_in lines.now t.0 then Some t else None) }
 {
@@ -111,7 +111,7 @@ fn spawner(lines: &[TxnRecord], t: TxnId) -> Option<TxnId>
     }
 }
 
-/// Puts the event at this place, which stands behind the others, into the table.
+/// Updates the table with the event at this place, which follows all others.
 pub fn note<A: Allocator>(lines: &mut [TxnRecord], place: u32, event: &Event<A>)
     requires { All (λ t. t < length lines.old) (named event.now) }
     ensures further { (t : ℕ) → get_or lines.new t unbegun ≡ further place (begun_in lines.old) event.now t (get_or lines.old t unbegun) }
@@ -150,14 +150,14 @@ pub fn note<A: Allocator>(lines: &mut [TxnRecord], place: u32, event: &Event<A>)
     }
 }
 
-// Whether the transaction has ended, by the table.
+// Whether the transaction has ended, according to the table.
 fn has_ended(lines: &[TxnRecord], t: TxnId) -> bool
     ensures { result ≡ ended_in lines.now t.0 }
 {
     record_of(lines, t).course.has_ended()
 }
 
-/// Whether by the event one that has ended permits something, or is permitted something: such a permit never counts.
+/// Whether the event is a permit by or for a transaction that has ended: such a permit is never in force.
 pub fn is_late<A: Allocator>(lines: &[TxnRecord], event: &Event<A>) -> bool
     ensures { result ≡ is_late (ended_in lines.now) event.now }
 {
@@ -167,7 +167,7 @@ pub fn is_late<A: Allocator>(lines: &[TxnRecord], event: &Event<A>) -> bool
     }
 }
 
-// Whether transactions of this class commit to their parents; those of one that is not in the model don't.
+// Whether transactions of this class commit to their parents; false for a class that is not in the model.
 fn commits_to_parent<A: Allocator>(model: &Model<A>, class: ClassId) -> bool
     ensures { result ≡ option_map_or (λ k. has_heir k.at_commit) (class_at model.now class.0) false }
 {
@@ -177,7 +177,7 @@ fn commits_to_parent<A: Allocator>(model: &Model<A>, class: ClassId) -> bool
     }
 }
 
-// The heir of one of this lineage: its parent, where its class says so.
+// The heir of the record's transaction: its parent, if its class commits to parents.
 fn heir_of_line<A: Allocator>(model: &Model<A>, line: TxnRecord) -> Option<TxnId>
     ensures { result ≡ heir_of_line model.now line }
 {
@@ -189,7 +189,7 @@ fn heir_of_line<A: Allocator>(model: &Model<A>, line: TxnRecord) -> Option<TxnId
     }
 }
 
-/// The heir of the one that commits by the event, by the table.
+/// The heir of the transaction that commits by the event, according to the table.
 pub fn heir_of<A: Allocator>(
     model: &Model<A>,
     lines: &[TxnRecord],
@@ -203,7 +203,7 @@ pub fn heir_of<A: Allocator>(
     }
 }
 
-// The lineage as the first n places give it, but for ends.
+// The record after the first n places, except for ends.
 fn before_place(n: u32, line: TxnRecord) -> TxnRecord
     ensures { result ≡ before_place n line }
 {
@@ -213,7 +213,7 @@ fn before_place(n: u32, line: TxnRecord) -> TxnRecord
     }
 }
 
-/// The heir of the one that commits by the event, behind the first n places, by the table of all places.
+/// The heir of the transaction that commits by the event after the first n places, given the table for all places.
 pub fn heir_behind<A: Allocator>(
     model: &Model<A>,
     lines: &[TxnRecord],

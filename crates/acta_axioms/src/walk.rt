@@ -23,9 +23,8 @@ use acta_values::Store;
 use indexmap::IndexSet;
 use std::alloc::AllocError;
 
-/// A walk through a list of kept items, legal or not, from its front: it answers what stands before the place that it
-/// has reached, as ACTA speaks of histories. Contracts see the model, the items in front of that place, and those from
-/// it on.
+/// A walk through a list of kept items, legal or not, from its first place. It answers questions about the state before
+/// its current place. Contracts see the model, the items before that place, and those from it on.
 #[derive(Drop)]
 pub struct Walk<'a, A: Handle> {
     pub(crate) model: &'a Model<A>,
@@ -34,7 +33,7 @@ pub struct Walk<'a, A: Handle> {
     pub(crate) lines: Vec<TxnRecord, A>,
     pub(crate) store: Store<A>,
     edges: Formed<A>,
-    // The permits of which neither transaction has ended.
+    // The permits neither of whose transactions has ended.
     pub(crate) permits: Permits<A>,
 }
 
@@ -52,7 +51,7 @@ impl<'a, A: Handle> std::marker::Model for Walk<'a, A> {
 }
 
 impl<'a, A: Handle> Walk<'a, A> {
-    /// A walk that stands before the first place of a list of at most `MOST_EVENTS` items.
+    /// A walk at the first place of a list of at most `MOST_EVENTS` items.
     pub fn of(alloc: A, model: &'a Model<A>, kept: &'a [Kept<A>]) -> Result<Walk<'a, A>, AllocError>
         requires { length kept.now ≤ MOST_EVENTS }
         ensures { IfOk result (λ walk. walk ≡ record { model = model.now; front = []; ahead = kept.now }) }
@@ -70,7 +69,7 @@ impl<'a, A: Handle> Walk<'a, A> {
         })
     }
 
-    /// Goes one item further, if one is ahead. On `Err` the walk stays where it was.
+    /// Takes the next item, if there is one. On `Err` the walk is unchanged.
     pub fn step(&mut self) -> Result<(), AllocError>
         ensures ok { OnOk result (self.new ≡ stepped self.old) }
         ensures err { OnErr result (self.new ≡ self.old) }
@@ -96,7 +95,7 @@ impl<'a, A: Handle> Walk<'a, A> {
         Ok(())
     }
 
-    /// A walk at the same place of the same list, in memory of its own.
+    /// Returns a copy of the walk, at the same place of the same list.
     pub fn copy(&self) -> Result<Walk<'a, A>, AllocError>
         ensures { IfOk result (λ walk. walk ≡ self.now) }
     {
@@ -111,22 +110,22 @@ impl<'a, A: Handle> Walk<'a, A> {
         })
     }
 
-    /// The operations that the transaction holds in progress, by number, ascending.
+    /// The access set of the transaction: the operations that it holds in progress, by number, ascending.
     pub fn access_set(&self, t: TxnId) -> Result<Vec<OpNo, A>, AllocError>
         ensures { IfOk result (λ ops. ops.items ≡ op_numbers (access_set self.now.model self.now.front t.0)) }
     {
         self.table().access_set(t)
     }
 
-    /// The operations in progress that others hold, but for ancestors that the transaction's class leaves out, and for
-    /// what is on an object on which their holder permits the transaction to work, by number, ascending.
+    /// The conflict set of the transaction, by number, ascending: operations in progress that others hold, except those
+    /// that are exempt, by ancestry if its class says so or by a permit.
     pub fn conflict_set(&self, t: TxnId) -> Result<Vec<OpNo, A>, AllocError>
         ensures { IfOk result (λ ops. ops.items ≡ op_numbers (conflict_set self.now.model self.now.front t.0)) }
     {
         self.seek(t, &Sought::Others)
     }
 
-    /// The operations of the transaction's conflict set with which this operation on this object conflicts, by number,
+    /// The operations of the transaction's conflict set that conflict with this operation on this object, by number,
     /// ascending.
     pub fn conflicting(&self, t: TxnId, object: ObjId, op: &Op) -> Result<Vec<OpNo, A>, AllocError>
         ensures { IfOk result (λ ops. ops.items ≡ op_numbers (conflicting self.now.model self.now.front t.0 object.0 op.now)) }
@@ -142,16 +141,16 @@ impl<'a, A: Handle> Walk<'a, A> {
         }
     }
 
-    /// The value of the object: its first value, with the operations on it that are not aborted, in order. `None` where
-    /// it is not in the model.
+    /// The value of the object: its initial value after the operations on it that are not aborted, in order. `None` if
+    /// the object is not in the model.
     pub fn value(&self, object: ObjId) -> Result<Option<ObjectState<A>>, AllocError>
         ensures { IfOk result (λ state. state ≡ option_map (value self.now.model self.now.front object.0) (kind_at self.now.model object.0)) }
     {
         self.store.value(object)
     }
 
-    /// What the operation on the object has to return: what it returns on the object's value. `None` where the object
-    /// is not in the model.
+    /// The return due for the operation on the object, from the object's value. `None` if the object is not in the
+    /// model.
     pub fn return_due(&self, object: ObjId, op: &Op) -> Result<Option<Ret>, AllocError>
         ensures { IfOk result (λ due. due ≡ return_due self.now.model self.now.front object.0 op.now) }
     {
@@ -167,14 +166,14 @@ impl<'a, A: Handle> Walk<'a, A> {
         self.model
     }
 
-    /// The item at the place that is reached. `None` at the end of the list.
+    /// The item at the current place, or `None` at the end of the list.
     pub fn next(&self) -> Option<&'a Kept<A>>
         ensures { option_copied result ≡ slice_get self.now.ahead 0 }
     {
         self.kept.get(self.taken)
     }
 
-    /// The items in front of the place that is reached.
+    /// The items before the current place.
     pub fn front(&self) -> &'a [Kept<A>]
         ensures front { result.now ≡ self.now.front }
         ensures few { length result.now ≤ MOST_EVENTS }
@@ -182,21 +181,21 @@ impl<'a, A: Handle> Walk<'a, A> {
         &self.kept[..self.taken]
     }
 
-    /// The items from the place that is reached on.
+    /// The items from the current place on.
     pub fn ahead(&self) -> &'a [Kept<A>]
         ensures { result.now ≡ self.now.ahead }
     {
         &self.kept[self.taken..]
     }
 
-    // The operations, with who holds them and what became of each.
+    // The operations, with holders and fates.
     pub(crate) fn table(&self) -> &OpTable<A>
         ensures { result.now ≡ held_ops self.now.model self.now.front }
     {
         self.store.operations()
     }
 
-    // What is known of the transaction.
+    // The record of the transaction.
     fn line(&self, t: TxnId) -> TxnRecord
         ensures { result ≡ txn_record self.now.front t.0 }
     {
@@ -210,8 +209,7 @@ impl<'a, A: Handle> Walk<'a, A> {
         self.line(t).course
     }
 
-    /// The class with which the transaction started. `None` where it has not, and where that class is not in the
-    /// model.
+    /// The class with which the transaction started. `None` if it has not started, or if the class is not in the model.
     pub fn class(&self, t: TxnId) -> Option<&'a Class<A>>
         ensures { option_copied result ≡ class_of self.now.model self.now.front t.0 }
     {
@@ -219,14 +217,14 @@ impl<'a, A: Handle> Walk<'a, A> {
         self.model.class(class)
     }
 
-    /// The one that spawned the transaction at its start, and had begun then. `None` where there is none.
+    /// The parent: the transaction that spawned the transaction at its start and had begun then, if there is one.
     pub fn parent(&self, t: TxnId) -> Option<TxnId>
         ensures { result ≡ parent_of self.now.front t.0 }
     {
         self.line(t).parent
     }
 
-    /// The operations, in order: each with its holder and its fate. The first has the number 1.
+    /// The operations in order, each with its holder and fate, numbered from 1.
     pub fn operations(&self) -> &[HeldOp]
         ensures operations { result.now ≡ held_ops self.now.model self.now.front }
         ensures few { length result.now ≤ MOST_EVENTS }
@@ -234,7 +232,7 @@ impl<'a, A: Handle> Walk<'a, A> {
         self.table().operations()
     }
 
-    // The operation of this number, with its holder and its fate.
+    // The operation with this number, with its holder and fate.
     fn operation(&self, op: OpNo) -> Option<HeldOp>
         ensures { result ≡ operation_at (held_ops self.now.model self.now.front) op.0 }
     {
@@ -244,7 +242,7 @@ impl<'a, A: Handle> Walk<'a, A> {
         self.operations().get(op.0 as usize - 1).copied()
     }
 
-    /// Whether the transaction holds the operation in progress: whether it is in the transaction's access set.
+    /// Whether the operation is in the transaction's access set: the transaction holds it in progress.
     pub fn holds(&self, t: TxnId, op: OpNo) -> bool
         ensures { result ≡ has_number (map (λ o. o.number) (access_set self.now.model self.now.front t.0)) op.0 }
     {
@@ -254,8 +252,8 @@ impl<'a, A: Handle> Walk<'a, A> {
         }
     }
 
-    /// The edges that the items form, legal or not, in order of forming. Each is in force once, however often it is
-    /// formed, and the first has the number 1.
+    /// The edges that the items form, legal or not, in order of forming, numbered from 1. An edge that is formed again
+    /// is not added again.
     pub fn edges(&self) -> &[Edge]
         ensures { result.now ≡ edges self.now.model self.now.front }
     {

@@ -19,7 +19,7 @@ not-next xs i x y there differs none k less is = elim (split-less k i less) [
   | inr before ↦ none k before is
 ]
 
--- the list contains what stands at a place
+-- the list contains the item at a place
 pub contains-at : {X : Type 0} (xs : List X) (i : ℕ) (x : X) → slice_get xs i ≡ Some x → Contains xs x
 contains-at xs i x there = (i, slice_get_within xs i x there, get_or_from_slice_get xs i x x there)
 
@@ -54,7 +54,7 @@ or-right : (a b : Bool) → b ≡ true → (a || b) ≡ true
 or-right true b is = refl
 or-right false b is = is
 
--- a test that decides whether two items are the same finds those that the list contains, and no others
+-- a test that decides whether two items are equal finds exactly the items of the list
 module _ {X : Type 0} (E : X → X → Bool) (decides : (a b : X) → Decides (E a b) (a ≡ b)) where
   pub any-contained : (xs : List X) (x : X) → Contains xs x → list_any (λ y. E y x) xs ≡ true
   any-contained [] x (k, less, is) = absurd (omega arith)

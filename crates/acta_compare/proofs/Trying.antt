@@ -17,7 +17,7 @@ use Rattle.acta_compare.specs.declared.seen.Seen.{Seen}
 use Rattle.acta_compare.specs.Seen.{events_among, parsed_each, seen_of, seen_with}
 use Rattle.acta_compare.specs.inside.Lines.{seen_at, seen_by, seen_from, state_at, state_by, state_from}
 
--- what a line says, before what the rest say
+-- the answer to a line, before those of the rest
 parsed-next : {A : Type 0} (s : State A) (parsed : Option (Result (Event A) LineFault)) (rest : List (List ℕ))
     → seen_with (cons_option parsed (parsed_each s.model rest)) (answers_to s (events_among (cons_option parsed (parsed_each s.model rest))))
     ≡ cons_option (option_map (seen_by s) parsed) (seen_from (state_by s parsed) rest)

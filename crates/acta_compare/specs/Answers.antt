@@ -1,4 +1,4 @@
--- What `compare` writes for two models.
+-- The output of `compare` for two models.
 use Rattle.std.specs.Prelude.{◌≡◌, ⊤, ℕ, true, false, List, length, nat_lt, if◌then◌else◌, Option, None, Result, Ok, Err}
 use Rattle.acta_table.specs.declared.model.Parts.{Parts}
 use Rattle.acta_script.specs.Reading.{program_line_of}
@@ -14,7 +14,7 @@ use Rattle.acta_compare.specs.declared.args.Compared.TheVariants.{Answers, Ends}
 abbrev pub longer : List ℕ → List ℕ → List ℕ
 longer model other = if nat_lt (length model) (length other) then other else model
 
--- programs are refused where a model can't read a line of them
+-- programs are refused if a model can't read a line of them
 abbrev pub IsAnswerUnless : Option BadLine → Option BadLine → Output → Type 0
 IsAnswerUnless None None out = ⊤
 IsAnswerUnless _ _ out = out.is_refused ≡ true
@@ -25,12 +25,12 @@ IsAnswerOn Answers m other input out = out.is_refused ≡ false
 IsAnswerOn (Ends most) m other input out =
     IsAnswerUnless (parsed_in (program_line_of m 16) input).stop (parsed_in (program_line_of other 16) input).stop out
 
--- the output on a model, where this is what the bytes of the second mean
+-- the output on a model, by the second model in its bytes
 abbrev pub IsAnswerWith : {A : Type 0} → Compared → Parts A → Result (Parts A) NoModel → List ℕ → Output → Type 0
 IsAnswerWith what m (Err fault) input out = out.is_refused ≡ true
 IsAnswerWith what m (Ok other) input out = IsAnswerOn what m other input out
 
--- the output where this is what the bytes of the models mean
+-- the output by the models in the bytes
 abbrev pub IsAnswerBy : {A : Type 0} → Compared → Result (Parts A) NoModel → Result (Parts A) NoModel → List ℕ → Output → Type 0
 IsAnswerBy what (Err fault) other input out = out ≡ refused_model fault
 IsAnswerBy what (Ok m) other input out = IsAnswerWith what m other input out

@@ -6,7 +6,7 @@ use Rattle.acta_compare.specs.declared.differences.Difference.{Difference}
 use Rattle.acta_compare.specs.declared.seen.Seen.{Seen}
 use Rattle.acta_compare.specs.Seen.{seen_in}
 
--- each line with both answers, where these are the numbers of the lines
+-- each line with both answers, by the numbers of the lines
 abbrev pub compared : List ℕ → List Seen → List Seen → List Difference
 compared (n ∷ numbers) (a ∷ one) (b ∷ other) = (record { line = n; one = a; other = b }) ∷ compared numbers one other
 compared _ _ _ = []

@@ -1,2 +1,2 @@
--- What the contracts inside the crate cite.
+-- Definitions used only by internal contracts and proofs. The public contracts can be read without them.
 pub mod Lines

@@ -7,8 +7,8 @@ use crate::owed::owed_only;
 use crate::reported::Reported;
 use crate::seen::Seen;
 use crate::side::Side;
-use acta_explain::{NonBlankLine, Prose, first_listed, non_blank_lines, put, put_more};
-use acta_io::Report;
+use acta_explain::{Prose, first_listed, put, put_more, put_words};
+use acta_io::{NonBlankLine, Report, non_blank_lines};
 use acta_machine::Handle;
 use acta_script::LineFault;
 use std::alloc::AllocError;
@@ -44,7 +44,7 @@ fn put_same<A: Handle>(
     }
 }
 
-// Adds the first line at which the answers differ, and both answers. The runs have come to that line.
+// Adds the first line at which the answers differ, and both answers. The runs have reached that line.
 fn put_first<A: Handle>(
     prose: Prose<A>,
     alloc: A,
@@ -53,12 +53,12 @@ fn put_first<A: Handle>(
     line: NonBlankLine<'_>,
 ) -> Prose<A> {
     let prose = put!(prose; "the answers differ first at line ", line.line, ": ");
-    let prose = line.put_words(prose, alloc).put("\n");
+    let prose = put_words(prose, alloc, line.bytes).put("\n");
     let prose = one.put_answer(prose, alloc, line);
     other.put_answer(prose, alloc, line)
 }
 
-// Adds which lines differ after the first.
+// Adds the later lines at which the answers differ.
 fn put_later<A: Handle>(prose: Prose<A>, later: &[Difference]) -> Prose<A> {
     let mut prose = match later.len() {
         0 => return prose.put("no other line differs\n"),
@@ -85,7 +85,7 @@ fn first_place(differences: &[Difference], lines: &[NonBlankLine<'_>]) -> usize 
     lines.len()
 }
 
-// The lines at which the answers differ. The runs are taken up to the first.
+// The lines at which the answers differ. Advances the runs to the first of them.
 fn differences_text<A: Handle>(
     alloc: A,
     one: &mut Reported<'_, A>,
@@ -107,7 +107,7 @@ fn differences_text<A: Handle>(
     }
 }
 
-// What is owed after the last line under only one of the models. The runs are taken from the line at this place on.
+// The debts after the last line under only one of the models. Advances the runs from the line at this place to the end.
 fn owed_text<A: Handle>(
     alloc: A,
     one: &mut Reported<'_, A>,

@@ -1,20 +1,20 @@
-//! What the words of a command line of `compare` ask for.
+//! The command line of `compare`.
 
 use acta_args::{CommandLine, ModelName, UsageFault, flag, model_arg, model_named, with_arg};
 use acta_programs::{MOST_POINTS, most_option};
 use clap::{ArgMatches, Command};
 use std::alloc::{AllocError, Global};
 
-/// What of two models is compared.
+/// What is compared of two models.
 #[derive(Clone, Copy, PartialEq, Eq, Debug)]
 pub enum Compared {
     /// The answers to the event lines of the input.
     Answers,
-    /// The ends of the programs of the input. Of each model so many points may be searched.
+    /// The ends of the programs of the input. For each model this many points may be searched.
     Ends(u32),
 }
 
-/// What a command line asks for: how two models differ on the standard input.
+/// A parsed command line: it asks how two models differ on the standard input.
 #[derive(Clone, Copy, PartialEq, Eq, Debug)]
 pub struct Asked<'a> {
     pub compared: Compared,
@@ -31,7 +31,7 @@ fn compared_by(matches: &ArgMatches<'_>) -> Compared {
     }
 }
 
-// What the matches ask for.
+// Converts the matches.
 fn asked_by<'a>(matches: &ArgMatches<'a>) -> Result<Asked<'a>, UsageFault> {
     let model = model_named(matches.get_str("MODEL").unwrap_or("@"));
     let other = model_named(matches.get_str("MODEL2").unwrap_or("@"));

@@ -14,7 +14,7 @@ use acta_machine::Handle;
 use acta_table::Model;
 use std::alloc::{AllocError, Allocator};
 
-/// What two models answer to the line with this number.
+/// The answers of two models to the line with this number.
 #[derive(Clone, Copy, PartialEq, Eq, Debug)]
 pub struct Difference {
     pub line: usize,
@@ -22,7 +22,7 @@ pub struct Difference {
     pub other: Seen,
 }
 
-// What both answer to the line at this place, from 0, of those that have a word.
+// The answers of both models to the line at this place, from 0, among those that have a word.
 fn compared_at(numbers: &[usize], one: &[Seen], other: &[Seen], place: usize) -> Option<Difference>
     ensures { result ≡ slice_get (compared numbers.now one.now other.now) place }
 {
@@ -33,8 +33,7 @@ fn compared_at(numbers: &[usize], one: &[Seen], other: &[Seen], place: usize) ->
     })
 }
 
-// The lines at which two models answer differently, where these are the numbers of the lines, and what each model answers
-// to them.
+// The lines at which the answers of two models differ; `numbers` has the number of each line.
 fn differing<A: Allocator>(
     alloc: A,
     numbers: &[usize],
@@ -60,7 +59,7 @@ fn differing<A: Allocator>(
 pub struct Comparison<A: Handle> {
     /// How many lines have a word.
     pub lines: usize,
-    /// The lines at which the models answer differently, in order, with both answers.
+    /// The lines at which the answers differ, in order, with both answers.
     pub differences: Vec<Difference, A>,
     pub one: Trial<A>,
     pub other: Trial<A>,

@@ -1,4 +1,4 @@
-//! The ends that programs have on only one of two models, in words.
+//! The ends of programs on only one of two models, in words.
 
 ghost use Rattle.std.specs.Prelude.{◌≡◌, false, IfOk};
 ghost use Rattle.acta_explore.specs.Ends.{AreAllEnds};
@@ -6,9 +6,9 @@ ghost use Rattle.acta_compare.specs.OnlyIn.{HasOutcomes};
 
 use crate::only::only_in;
 use crate::side::Side;
-use acta_explain::{NonBlankLine, Prose, non_blank_lines, put, put_model_name};
+use acta_explain::{Prose, put, put_model_name};
 use acta_explore::{Explored, Plan};
-use acta_io::{Report, numbers_of_lines};
+use acta_io::{NonBlankLine, Report, non_blank_lines, numbers_of_lines};
 use acta_machine::Handle;
 use acta_programs::{Programs, put_count, put_end};
 use acta_script::ProgramLine;
@@ -49,7 +49,7 @@ fn put_only<A: Handle>(
     Ok(prose)
 }
 
-// The ends that only one of the models has.
+// The ends on only one of the models.
 fn ends_text<A: Handle>(
     alloc: A,
     one: &Ends<'_, A>,
@@ -83,7 +83,7 @@ fn ends_text<A: Handle>(
     .done()
 }
 
-/// The ends that only one of the models has, in words.
+/// The ends on only one of the models, in words.
 pub(crate) fn explain_only<A: Handle>(
     alloc: A,
     one: &Ends<'_, A>,

@@ -1,8 +1,8 @@
 //! The command `compare`: where two models differ on the same input.
 //!
-//! Both models answer the same event lines, or run the same programs in every order. For a reader the first line with
-//! different answers is put into words, with both reasons, and then which other lines differ and what only one of the two
-//! owes. Of programs the ends are shown that only one model has. A call that allocates returns `Err` if memory runs out.
+//! Both models answer the same event lines, or run the same programs in every order. Of event lines the words show the first
+//! one with different answers, with the reasons for both, then the other lines that differ and the debts under only one
+//! model. Of programs they show the ends on only one model. A call that allocates returns `Err` if memory runs out.
 #![tactic(auto)]
 
 mod answers;

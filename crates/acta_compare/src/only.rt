@@ -1,4 +1,4 @@
-//! The ends that only one of two models has.
+//! The ends on only one of two models.
 
 ghost use Rattle.std.specs.Prelude.{◌≡◌, ◌↔◌, length, IfOk, IsTrue};
 ghost use Rattle.std.specs.List.{Contains, range_with_len};
@@ -26,7 +26,7 @@ fn has_outcome<A: Handle>(explored: &Explored<A>, outcome: &Outcome<A>) -> bool
     false
 }
 
-/// The places, from 0, of the ends whose outcome no end of the other has, in order.
+/// The places, from 0, of the ends of the first whose outcome no end of the second has, in order.
 pub fn only_in<A: Handle>(
     alloc: A,
     explored: &Explored<A>,

@@ -1,4 +1,4 @@
-//! What is owed after the last line under only one of two models.
+//! The debts after the last line under only one of two models.
 
 ghost use Rattle.std.specs.Prelude.{IfOk};
 ghost use Rattle.acta_explore.specs.Outcomes.{debts_of};
@@ -9,7 +9,7 @@ use acta_explore::{Debt, debts};
 use acta_machine::{Handle, Machine};
 use std::alloc::AllocError;
 
-/// What is owed on the machine, and not on the other. The numbers of edges don't count.
+/// The debts of the first machine that the second does not have. The numbers of edges are ignored.
 pub fn owed_only<A: Handle>(
     alloc: A,
     machine: &Machine<A>,

@@ -1,4 +1,4 @@
-//! What is written for the bytes of two models and of an input.
+//! The report for the bytes of two models and of an input.
 
 ghost use Rattle.std.specs.Prelude.{◌≡◌, ◌≤◌, ◌+◌, true, ◌||◌, is_some, IfOk, IfSome, false};
 ghost use Rattle.acta_io.specs.Outcome.{AnswersBy, FailsBy, IsUnreadTooLong, KeepsUnread, WritesBy, reason_of};
@@ -43,7 +43,7 @@ fn with_name<A: Handle>(
     })
 }
 
-// That the bytes of the second model mean none.
+// The report that the bytes of the second model are not a model.
 fn refuse_other<A: Handle>(
     alloc: A,
     name: ModelName<'_>,
@@ -55,7 +55,7 @@ fn refuse_other<A: Handle>(
     with_name(alloc, name, &refused)
 }
 
-// That the search for the ends on a model was given up after so many points and ends.
+// The report that the search for the ends on a model was given up after this many points and ends.
 fn give_up<A: Handle>(
     alloc: A,
     name: ModelName<'_>,
@@ -69,7 +69,7 @@ fn give_up<A: Handle>(
     with_name(alloc, name, &incomplete)
 }
 
-// Adds that a model can't read the line, if this is that line.
+// Adds that the model can't read this line, if this is its faulty line.
 fn put_stop<A: Handle>(
     prose: Prose<A>,
     side: &Side<'_, A>,
@@ -103,7 +103,7 @@ fn first_line(stop: Option<BadLine>, other: Option<BadLine>) -> usize {
     }
 }
 
-// That the programs can't be compared, since a model can't read a line.
+// The report that the programs can't be compared, since a model can't read a line.
 fn refuse_lines<A: Handle>(
     alloc: A,
     one: &Side<'_, A>,
@@ -122,7 +122,7 @@ fn refuse_lines<A: Handle>(
     })
 }
 
-// What is written of programs of which all ends on the first model were found.
+// The report on programs whose ends on the first model were all found.
 fn compare_found<A: Handle, W: Watch>(
     alloc: A,
     most: u32,
@@ -153,7 +153,7 @@ fn compare_found<A: Handle, W: Watch>(
     }
 }
 
-// What is written of programs that both models can read.
+// The report on programs that both models can read.
 fn compare_programs<A: Handle, W: Watch>(
     alloc: A,
     most: u32,
@@ -182,7 +182,7 @@ fn compare_programs<A: Handle, W: Watch>(
     }
 }
 
-// What is written of the programs of an input.
+// The report on the programs of an input.
 fn compare_ends<A: Handle, W: Watch>(
     alloc: A,
     most: u32,
@@ -220,7 +220,7 @@ fn compare_ends<A: Handle, W: Watch>(
     )
 }
 
-// What is written on two models.
+// The report on two models.
 fn compare_on<A: Handle, W: Watch>(
     alloc: A,
     compared: Compared,
@@ -237,7 +237,7 @@ fn compare_on<A: Handle, W: Watch>(
     }
 }
 
-// What is written on a model and for the bytes of a second one.
+// The report on a model and the bytes of a second one.
 fn compare_with<A: Handle, W: Watch>(
     alloc: A,
     asked: Asked<'_>,
@@ -265,8 +265,8 @@ fn compare_with<A: Handle, W: Watch>(
     }
 }
 
-/// What is written for the bytes of two models and of an input. A faulty model refuses the input. So do programs of which a
-/// model can't read a line, and a search that finds more points than may be.
+/// The report for the bytes of two models and of an input. It refuses the input if a model is faulty, if a model can't read
+/// a line of programs, or if a search finds more points than allowed.
 pub fn compared<A: Handle, W: Watch>(
     alloc: A,
     asked: Asked<'_>,
@@ -284,7 +284,7 @@ pub fn compared<A: Handle, W: Watch>(
     }
 }
 
-// The longer of the bytes of two models; the first if they are of one length.
+// The longer of the bytes of two models; the first if they are equally long.
 fn longer<'a>(model: &'a [u8], other: &'a [u8]) -> &'a [u8]
     ensures { result.now ≡ longer model.now other.now }
 {
@@ -295,8 +295,8 @@ fn longer<'a>(model: &'a [u8], other: &'a [u8]) -> &'a [u8]
     }
 }
 
-/// Reads the whole input, and writes in one go where the models of these bytes differ on it. `Unread` and `Unwritten` as for
-/// the other commands: where the input can't be read, nothing is written.
+/// Reads the whole input, and writes at once where the models of these bytes differ on it. Returns `Unread` and `Unwritten`
+/// as the other commands do: if the input can't be read, nothing is written.
 pub fn compare_tool<A: Handle, W: Watch, S: Source, K: Sink>(
     alloc: A,
     asked: Asked<'_>,

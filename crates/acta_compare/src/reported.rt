@@ -2,11 +2,11 @@
 
 use crate::side::Side;
 use acta_explain::{
-    LineForm, NonBlankLine, Prose, Refused, RunTrace, Stop, put_barred, put_line, put_model_name,
-    put_stop,
+    LineForm, Prose, Refused, RunTrace, Stop, put_barred, put_line, put_model_name, put_stop,
 };
 use acta_explore::Debt;
 use acta_hope::{Hope, why_and_hope};
+use acta_io::NonBlankLine;
 use acta_machine::{Handle, Machine, Reason};
 use acta_programs::put_debts;
 use acta_script::{LineError, answer_line, read_event};
@@ -20,7 +20,7 @@ pub(crate) struct Reported<'a, A: Handle> {
     run: RunTrace<A>,
 }
 
-// The answer to an event that comes next, as its line.
+// The answer line to the next event.
 fn answer_text<A: Handle>(
     alloc: A,
     machine: &Machine<A>,
@@ -33,7 +33,7 @@ fn answer_text<A: Handle>(
 }
 
 impl<'a, A: Handle> Reported<'a, A> {
-    /// Nothing has happened yet.
+    /// The run before any event.
     pub(crate) fn new(alloc: A, side: &'a Side<'a, A>) -> Result<Reported<'a, A>, AllocError> {
         Ok(Reported {
             side,
@@ -59,7 +59,7 @@ impl<'a, A: Handle> Reported<'a, A> {
         Ok(())
     }
 
-    // Adds why an event that comes next is refused, in lines.
+    // Adds why the next event is refused, in lines.
     fn put_refused(
         &self,
         prose: Prose<A>,
@@ -79,7 +79,7 @@ impl<'a, A: Handle> Reported<'a, A> {
         if has_failed { prose.fail() } else { prose }
     }
 
-    // Adds the answer to an event that comes next, and why it is refused, if it is.
+    // Adds the answer to the next event, and why it is refused, if it is.
     fn put_event(&self, prose: Prose<A>, alloc: A, event: &Event<A>) -> Prose<A> {
         let machine = self.run.machine();
         let prose = put_line(prose, answer_text(alloc, machine, event)).put("\n");
@@ -90,7 +90,7 @@ impl<'a, A: Handle> Reported<'a, A> {
         }
     }
 
-    /// Adds what the model answers to the line that comes next, and why.
+    /// Adds the model's answer to the next line, and why.
     pub(crate) fn put_answer(&self, prose: Prose<A>, alloc: A, line: NonBlankLine<'_>) -> Prose<A> {
         let prose = put_model_name(prose.put("  "), self.side.name).put(": ");
         match read_event(alloc, self.side.model, line.bytes) {
@@ -108,7 +108,7 @@ impl<'a, A: Handle> Reported<'a, A> {
         }
     }
 
-    /// Adds what is owed under this model alone.
+    /// Adds the debts under only this model.
     pub(crate) fn put_owed(&self, prose: Prose<A>, debts: &[Debt]) -> Prose<A> {
         if debts.is_empty() {
             return prose;

@@ -1,4 +1,4 @@
-//! What of an answer is compared.
+//! The part of an answer that is compared.
 
 ghost use Rattle.std.specs.Prelude.{◌≡◌, ◌↔◌, IsTrue};
 ghost use Rattle.acta_compare.specs.Seen.{seen_of};
@@ -6,20 +6,20 @@ ghost use Rattle.acta_compare.specs.Seen.{seen_of};
 use acta_script::LineFault;
 use acta_table::{Answer, Ret, Rule};
 
-/// What a model answers to a line. The place in the history and the number that breaks a rule are left out: after the first
-/// difference between two runs they differ anyway.
+/// A model's answer to a line. It leaves out the place in the history and the number with the rule, which differ anyway
+/// after the first difference between two runs.
 #[derive(Clone, Copy, PartialEq, Eq, Debug)]
 pub enum Seen {
     /// The model can't read the line.
     Unread(LineFault),
-    /// The event is admitted; an operation returned this.
+    /// The event is admitted, with this return if it is an operation.
     Admitted(Option<Ret>),
     /// The event is refused by this rule.
     Refused(Rule),
 }
 
 impl Seen {
-    /// What is compared of an answer.
+    /// The part of an answer that is compared.
     pub(crate) fn of(answer: Answer) -> Seen
         ensures { result ≡ seen_of answer }
     {

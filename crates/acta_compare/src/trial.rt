@@ -14,14 +14,14 @@ use acta_table::Model;
 use acta_words::{Lines, has_words};
 use std::alloc::AllocError;
 
-/// What a model answers to each line of an input that has a word, and its machine after the last.
+/// A model's answers to the lines of an input that have a word, and its machine after the last.
 #[derive(Drop)]
 pub struct Trial<A: Handle> {
     pub seen: Vec<Seen, A>,
     pub machine: Machine<A>,
 }
 
-// What the machine answers to the line, if it has a word. A line that the model can't read leaves the machine as it was.
+// The machine's answer to the line, if it has a word. A line that the model can't read leaves the machine unchanged.
 fn see<A: Handle>(
     alloc: A,
     machine: &mut Machine<A>,
@@ -40,7 +40,7 @@ fn see<A: Handle>(
     }
 }
 
-// What the machine answers to the lines of the input, one after another.
+// The machine's answers to the lines of the input, one after another.
 fn see_all<A: Handle>(
     alloc: A,
     machine: &mut Machine<A>,

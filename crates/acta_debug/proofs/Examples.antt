@@ -1,4 +1,4 @@
--- Examples: debuggers on a history in which a debt is paid, and lists that are no histories.
+-- Examples: debuggers on a history in which a debt is settled, and lists that are not histories.
 use Rattle.std.specs.Prelude.{ℕ, ◌≡◌, refl, pos, true, false, codes, List, [], ◌∷◌, map, Option, Some, None, Ok, Err}
 use Rattle.std.proofs.Common.{ap, arith}
 use Rattle.acta_table.specs.declared.dep.Dep.TheVariants.{Scd}
@@ -51,13 +51,13 @@ commit t = plain (Commit (record { 0 = t }))
 abbrev operate : ℕ → Op → Ret → Kept (Unit {0})
 operate t op ret = record { event = Operate (record { 0 = t }) (record { 0 = 0 }) op; ret = Some ret }
 
--- 2 owes a commit behind place 4 and pays it at place 5; 3 adds twice
+-- after place 4 transaction 2 owes a commit, and does it at place 5; 3 adds twice
 abbrev paid : List (Kept (Unit {0}))
 paid =
     plain (Form Scd (record { 0 = 2 }) (record { 0 = 1 })) ∷ begin 1 ∷ begin 2 ∷ commit 1 ∷ commit 2 ∷ begin 3
     ∷ operate 3 (Add (pos 1)) Done ∷ operate 3 (Add (pos 1)) Done ∷ []
 
--- a commit that comes before the begin, and a return that is another
+-- a commit before the begin, and a wrong return
 abbrev committed_first : List (Kept (Unit {0}))
 committed_first = commit 1 ∷ begin 1 ∷ []
 
@@ -109,12 +109,12 @@ goes_back = refl
 goes : map (gone_to start) (4 ∷ 8 ∷ 9 ∷ []) ≡ Ok (moved_to start 4) ∷ Ok (moved_to start 8) ∷ Err OutOfRange ∷ []
 goes = refl
 
--- a run to where something is owed, and on to the end
+-- a run to where an event is owed, and on to the end
 owed_at : map (λ n. stop_of (moved_to (with_break start (OwedAtLeast 1)) n)) (0 ∷ 3 ∷ 4 ∷ 8 ∷ []) ≡ Broke 1 4 ∷ Broke 1 4 ∷ Finished ∷ Finished ∷ []
 unfolding after summary_of full bad_number bad_class bad_object bad_operation same_transaction not_in_progress already_begun not_in_model partner_not_in_progress not_responsible partial_delegation bad_set conflict form_too_late edges_full no_heir begin_dep serial_dep begin_on_commit begin_on_abort termination_dep owing_abort owing_commit commit_order weak_begin unpayable_commit unpayable_abort clash start_refusal commit_refusal abort_refusal join_refusal stood entered linked operated fated counted terminated
 owed_at = refl
 
--- a run by four breaks, of which the lowest number is told, and by none
+-- a run with four breaks, of which the lowest number is reported, and with none
 abbrev tracing : Session (Unit {0})
 tracing =
     with_break (with_break (with_break (with_break start (Object (record { 0 = 0 }))) (Ended (record { 0 = 2 }))) (Touches (record { 0 = 2 }))) (Kind operate_kind)

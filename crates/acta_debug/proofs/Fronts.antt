@@ -1,4 +1,4 @@
--- Machines that have kept fronts of a history.
+-- Machines that have kept prefixes of a history.
 use Rattle.std.proofs.Common.{◌≡◌, ℕ, ◌+◌, ◌-◌, ◌<◌, ◌≤◌, List, [], ◌∷◌, ◌++◌, get_or, set, length, take, refl, sym, ap, ◌∙◌, subst, arith}
 use Rattle.std.specs.Prelude.{slice_range}
 use Rattle.std.proofs.Math.Seq.{take-add}
@@ -23,11 +23,11 @@ pub taken-front : {A : Type 0} (m : Parts A) (h : List (Kept A)) (n : ℕ) (t : 
 taken-front {A} m h n t is =
     subst (λ (x : State A). IsFront m h x) (sym is) (record { model = refl; kept = sym (ap (λ j. take j h) (length-take n h) ∙ take_min n h) })
 
--- no front is longer
+-- no prefix is longer
 pub front-within : {A : Type 0} (m : Parts A) (h : List (Kept A)) (t : State A) → IsFront m h t → length t.kept ≤ length h
 front-within {A} m h t front = let size = ap (length {A = Kept A}) front.kept in omega (arith, size, length-take (length t.kept) h)
 
--- a front stays one where the history goes on
+-- a prefix stays one when the history grows
 pub front-on : {A : Type 0} (m : Parts A) (h more : List (Kept A)) (t : State A) → IsFront m h t → IsFront m (h ++ more) t
 front-on m h more t front = record {
   model = front.model;
@@ -43,13 +43,13 @@ no-fronts m h = record { each = λ k d lt. absurd (omega (arith, lt)) }
 pub front-at : {A : Type 0} (m : Parts A) (h : List (Kept A)) (ts : List (State A)) (k : ℕ) (d t : State A) → AreFronts m h ts → k < length ts → t ≡ get_or ts k d → IsFront m h t
 front-at {A} m h ts k d t all below is = subst (λ (x : State A). IsFront m h x) (sym is) (all.each k d below)
 
--- the machine of a debugger has kept a front
+-- the machine of a debugger has kept a prefix
 pub inside-front : {A : Type 0} (s t : State A) (h : List (Kept A)) (at : ℕ) → IsInside s h at → t ≡ s → IsFront s.model h t
 inside-front {A} s t h at inside is =
     let long : length s.kept ≡ at = ap (length {A = Kept A}) inside.kept ∙ length-take-le at h inside.within in
     subst (λ (x : State A). IsFront s.model h x) (sym is) (record { model = refl; kept = inside.kept ∙ ap (λ n. take n h) (sym long) })
 
--- one of them may be put in the place of another
+-- one of the machines may be replaced
 pub fronts-set : {A : Type 0} (m : Parts A) (h : List (Kept A)) (ts : List (State A)) (k : ℕ) (t : State A) → AreFronts m h ts → IsFront m h t → AreFronts m h (set ts k t)
 fronts-set m h ts k t all one = record { each = All-set (IsFront m h) ts k t one all.each }
 
@@ -57,7 +57,7 @@ fronts-set m h ts k t all one = record { each = All-set (IsFront m h) ts k t one
 pub after-model : {A : Type 0} (s t : State A) (e : Event A) → t ≡ after s e → t.model ≡ s.model
 after-model {A} s t e goes = ap (λ (x : State A). x.model) goes ∙ (after-gained s e).model
 
--- fronts of what the machine s has kept are fronts of what it has kept behind an event
+-- prefixes of what the machine s has kept are prefixes of what it has kept after an event
 pub fronts-after : {A : Type 0} (s t : State A) (e : Event A) (ts : List (State A)) → t ≡ after s e → AreFronts s.model s.kept ts → AreFronts t.model t.kept ts
 fronts-after {A} s t e ts goes all =
     let on = after-gained s e in
@@ -68,7 +68,7 @@ fronts-after {A} s t e ts goes all =
           (subst (λ (h : List (Kept A)). IsFront s.model h (get_or ts k d)) (sym kept) (front-on s.model s.kept on.more (get_or ts k d) (all.each k d lt)));
     }
 
--- a machine that has kept a front, and takes the items behind it up to the place n, stands there
+-- a machine that has kept a prefix, and takes the following items up to the place n, is at n
 pub front-goes : {A : Type 0} (m : Parts A) (h : List (Kept A)) → IsHistory m h → (s t : State A) (k n : ℕ) → IsFront m h s → k ≡ length s.kept → k ≤ n → t ≡ after_all s (events_in (slice_range h k n)) → t ≡ with_kept m (take n h)
 front-goes {A} m h whole s t k n front long up goes =
     let there : s ≡ run_state m (events_in (take k h)) = (λ i. with_kept (front.model i) (front.kept i)) ∙ ap (λ n. with_kept m (take n h)) (sym long) ∙ sym (fronts m h whole k) in

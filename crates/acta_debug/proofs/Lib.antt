@@ -1,3 +1,4 @@
+pub mod Cursors
 mod Examples
 pub mod Fronts
 pub mod Replaying

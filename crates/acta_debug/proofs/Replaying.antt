@@ -1,5 +1,5 @@
--- What replays leave: a history and its fronts are kept whole, and a list stops being one at the first item that is not
--- admitted as it is written.
+-- Replays: a history and its prefixes are kept whole, and a list stops being a history at the first item that is not
+-- admitted with its return.
 use Rattle.std.proofs.Common.{◌≡◌, ℕ, suc, ◌+◌, ◌-◌, subst, ◌<◌, ◌≤◌, List, [], ◌∷◌, ◌++◌, length, take, drop, get_or, Option, Some, None, refl, sym, ap, ◌∙◌, append_assoc, append-nil, arith, length-append}
 use Rattle.std.proofs.lemmas.List.{append_cancel_left, map-append, take-append-drop, take_more, length-take-le}
 use Rattle.acta_table.specs.declared.answer.Answer.{Answer}
@@ -27,7 +27,7 @@ pub replay-more : {A : Type 0} (m : Parts A) (ks : List (Kept A)) (k : Kept A) �
 replay-more {A} m ks k =
     ap (run_state m) (map-append (λ (x : Kept A). x.event) ks (k ∷ [])) ∙ after_all-append (fresh m) (events_in ks) (k.event ∷ [])
 
--- what a history gains by events: at most one item by each
+-- events add at most one item each to a history
 pub record Gained {A : Type 0} (s t : State A) (most : ℕ) : Type 0 where
   pub more : List (Kept A)
   pub model : t.model ≡ s.model
@@ -68,7 +68,7 @@ same-front {X} (x ∷ xs) ys (u ∷ us) vs n e =
     let rest = same-front xs ys us vs (omega (arith, n)) tail in
     λ i. head i ∷ rest i
 
--- each front of a history is one
+-- every prefix of a history is one
 pub fronts : {A : Type 0} (m : Parts A) (h : List (Kept A)) → IsHistory m h → (n : ℕ) → IsHistory m (take n h)
 fronts {A} m h whole n =
     let front = take n h in
@@ -90,11 +90,11 @@ fronts {A} m h whole n =
     let front-is = same-front reached.kept then.more front rest same both in
     λ i. with_kept (first.model i) (front-is i)
 
--- no events change the model
+-- events do not change the model
 pub runs-model : {A : Type 0} (m : Parts A) (es : List (Event A)) → (run_state m es).model ≡ m
 runs-model m es = (all-gained (fresh m) es).model
 
--- what a machine has kept is a history
+-- every list that a machine has kept is a history
 own-moved : {A : Type 0} (m : Parts A) (s : State A) (e : Event A) (r : Option Refusal) → run_state m (events_in s.kept) ≡ s → after s e ≡ moved_on s e r
     → run_state m (events_in (moved_on s e r).kept) ≡ moved_on s e r
 own-moved {A} m s e None own next = replay-more m s.kept (kept_as s e) ∙ ap (λ (t : State A). after t e) own ∙ next
@@ -115,7 +115,7 @@ runs m es =
     let model = runs-model m es in
     own ∙ (λ i. with_kept (model i) s.kept)
 
--- the answer that an item is due
+-- the answer that an item requires
 abbrev pub due : {A : Type 0} → List (Kept A) → Kept A → Answer
 due front k = Admitted (length front + 1) k.ret
 
@@ -138,7 +138,7 @@ pub after-refused : {A : Type 0} (s : State A) (e : Event A) (rule : Rule) (by :
 unfolding after answer_to
 after-refused s e rule by h = moved-nowhere s e rule by (lowest_broken s.model (summary_of s.model s.kept) e) h
 
--- an item that is admitted as it is written makes a longer history
+-- an item that is admitted with its return makes a longer history
 pub history-on : {A : Type 0} (m : Parts A) (front : List (Kept A)) (k : Kept A) (n : ℕ) → IsHistory m front → answer_to (with_kept m front) k.event ≡ Admitted n k.ret
     → IsHistory m (front ++ k ∷ [])
 history-on {A} m front k n so_far admitted =
@@ -159,12 +159,12 @@ after-off : {A : Type 0} (m : Parts A) (front : List (Kept A)) (k : Kept A) → 
 unfolding after answer_to
 after-off m front k e = moved-off m front k (lowest_broken m (summary_of m front) k.event) e
 
--- and a longer history admits its last item as it is written
+-- and a longer history admits its last item with its return
 pub history-off : {A : Type 0} (m : Parts A) (front : List (Kept A)) (k : Kept A) → IsHistory m front → IsHistory m (front ++ k ∷ []) → answer_to (with_kept m front) k.event ≡ due front k
 history-off {A} m front k so_far longer =
     after-off m front k (sym (replay-more m front k ∙ ap (λ (t : State A). after t k.event) so_far) ∙ longer)
 
--- a place where the answer is not the one that is due is the first other place
+-- a place with another answer than required is the first place that does not fit
 pub first-other : {A : Type 0} (m : Parts A) (h : List (Kept A)) (i : ℕ) (k : Kept A) → i < length h → take (i + 1) h ≡ take i h ++ k ∷ [] → IsHistory m (take i h)
     → ¬ (answer_to (with_kept m (take i h)) k.event ≡ Admitted (i + 1) k.ret) → IsFirstOther m h (i + 1)
 first-other {A} m h i k below next so_far wrong = record {
@@ -173,7 +173,7 @@ first-other {A} m h i k below next so_far wrong = record {
   other = λ longer. wrong (history-off m (take i h) k so_far (subst (λ (x : List (Kept A)). IsHistory m x) next longer) ∙ ap (λ (n : ℕ). Admitted (n + 1) k.ret) (length-take-le i h (omega arith)));
 }
 
--- the front that is one item longer
+-- the prefix that is one item longer
 pub taken : {X : Type 0} (xs : List X) (i : ℕ) (x : X) → i < length xs → x ≡ get_or xs i x → take (i + 1) xs ≡ take i xs ++ x ∷ []
 taken {X} xs i x below is = take_more xs i x below ∙ ap (λ (y : X). take i xs ++ y ∷ []) (sym is)
 
@@ -182,7 +182,7 @@ pub record HasKept {A : Type 0} (m : Parts A) (front : List (Kept A)) (s : State
   pub kept : s ≡ with_kept m front
   pub so_far : IsHistory m front
 
--- by an item that is admitted as it is written it keeps one more
+-- an item that is admitted with its return is kept
 pub kept-one : {A : Type 0} (m : Parts A) (h : List (Kept A)) (i : ℕ) (k : Kept A) (s t : State A) → HasKept m (take i h) s → take (i + 1) h ≡ take i h ++ k ∷ []
     → (n : ℕ) → answer_to s k.event ≡ Admitted n k.ret → t ≡ after s k.event → HasKept m (take (i + 1) h) t
 kept-one {A} m h i k s t has next n admitted goes =
@@ -192,14 +192,14 @@ kept-one {A} m h i k s t has next n admitted goes =
       so_far = subst (λ (x : List (Kept A)). IsHistory m x) (sym next) (history-on m (take i h) k n has.so_far there);
     }
 
--- and by any item it comes to stand behind one more
+-- after any item the machine is one place further
 pub state-next : {A : Type 0} (m : Parts A) (h : List (Kept A)) (i : ℕ) (k : Kept A) (s t : State A) → HasKept m (take i h) s → take (i + 1) h ≡ take i h ++ k ∷ [] → t ≡ after s k.event
     → t ≡ state_at m h (i + 1)
 state-next {A} m h i k s t has next goes =
     goes ∙ ap (λ (x : State A). after x k.event) (has.kept ∙ sym has.so_far) ∙ sym (replay-more m (take i h) k)
     ∙ ap (λ (x : List (Kept A)). run_state m (events_in x)) (sym next)
 
--- in a history each item is kept
+-- in a history every item is kept
 pub kept-next : {A : Type 0} (m : Parts A) (h : List (Kept A)) → IsHistory m h → (i : ℕ) (k : Kept A) (s t : State A) → s ≡ with_kept m (take i h) → i < length h → k ≡ get_or h i k
     → t ≡ after s k.event → t ≡ with_kept m (take (i + 1) h)
 kept-next {A} m h whole i k s t has below item goes =
@@ -209,6 +209,6 @@ kept-next {A} m h whole i k s t has below item goes =
 history-along : {A : Type 0} {m n : Parts A} {h j : List (Kept A)} → m ≡ n → h ≡ j → IsHistory m h → IsHistory n j
 history-along {A} {m} {n} {h} {j} model list whole = sym (λ i. run_state (model i) (events_in (list i))) ∙ whole ∙ (λ i. with_kept (model i) (list i))
 
--- a history has no first other place
+-- a history has no place that does not fit
 pub no-other : {A : Type 0} {m n : Parts A} {h j : List (Kept A)} (place : ℕ) → m ≡ n → h ≡ j → IsFirstOther m h place → IsHistory n j → ⊥
 no-other {A} {m} {n} {h} {j} place model list first whole = first.other (fronts m h (history-along (sym model) (sym list) whole) place)

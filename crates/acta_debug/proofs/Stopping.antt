@@ -1,4 +1,4 @@
--- A run stops at the first place ahead at which a break holds.
+-- A run stops at the first later place at which a break holds.
 use Rattle.std.proofs.Common.{◌≡◌, ℕ, zero, suc, ◌+◌, ◌-◌, ◌<◌, ◌≤◌, List, length, take, get_or, Option, Some, None, refl, sym, ap, subst, ◌∙◌, arith, inl, inr}
 use Rattle.std.specs.Prelude.{false, slice_get}
 use Rattle.std.specs.List.{range_with_len}
@@ -39,7 +39,7 @@ stops-among s a (suc l) ahead whole none =
 pub stops-first : {A : Type 0} (s : Session A) → s.at ≤ length s.history → IsStop s (stop_of s)
 stops-first s within = stops-among s (s.at + 1) (length s.history - s.at) (omega arith) (omega (arith, within)) (λ p lt below. absurd (omega (arith, lt, below)))
 
--- the break at the place just reached, read off the machine
+-- the break at the place just reached, computed from the machine
 pub break-reached : {A : Type 0} (s : Session A) (i : ℕ) (k : Kept A) (t : State A) → IsHistory s.model s.history → i < length s.history → k ≡ get_or s.history i k
     → t ≡ with_kept s.model (take (i + 1) s.history) → break_at s (i + 1) ≡ first_number (holds_of t k.event) s.breaks
 break-reached {A} s i k t whole below item is =
@@ -47,12 +47,12 @@ break-reached {A} s i k t whole below item is =
     let state = fronts s.model s.history whole (i + 1) ∙ sym is in
     λ j. first_number (λ b. option_map_or (λ (x : Kept A). holds_of (state j) x.event b) (here j) false) s.breaks
 
--- the places ahead from one on: that one, and the others
+-- the places after the current one: the next, and the others
 pub stop-next : {A : Type 0} (s : Session A) (i last : ℕ) → i < last
     → stop_among s (range_with_len (i + 1) (last - i)) ≡ option_map_or (λ b. Broke b (i + 1)) (break_at s (i + 1)) (stop_among s (range_with_len (i + 1 + 1) (last - (i + 1))))
 stop-next s i last lt = let more : last - i ≡ suc (last - (i + 1)) = omega (arith, lt) in ap (λ n. stop_among s (range_with_len (i + 1) n)) more
 
--- a turn of a run: the machine r, which has kept the first i items, takes the next one, k, and is then t; o is the break
+-- a turn of a run: machine r, which has kept the first i items, takes the next one, k, and becomes t; o is the break
 -- that holds there
 module _ {A : Type 0} (s r t : State A) (h : List (Kept A)) (at : ℕ) (bs : List Break) (inside : IsInside s h at) (i : ℕ) (k : Kept A) (o : Option ℕ)
     (kept : r ≡ with_kept s.model (take i h)) (below : i < length h) (item : k ≡ get_or h i k) (goes : t ≡ after r k.event) (follows : FollowsPlaces t)

@@ -1,4 +1,4 @@
--- What becomes of a debugger whose machine takes an event where it stands.
+-- A debugger whose machine takes an event at its place.
 use Rattle.std.proofs.Common.{◌≡◌, ℕ, ◌+◌, ◌<◌, ◌≤◌, List, [], ◌∷◌, ◌++◌, length, take, filter, get_or, true, Option, refl, sym, ap, ◌∙◌, subst, arith}
 use Rattle.std.proofs.lemmas.Bool.Decides.{nat_tests}
 use Rattle.std.specs.Prelude.{All}
@@ -31,7 +31,7 @@ behind-same q t same = grind (arith, nat_tests)
 within-of : {A : Type 0} (n : ℕ) (t : State A) → has_kept_within n t ≡ true → length t.kept ≤ n
 within-of n t short = grind (arith, nat_tests)
 
--- a front that has kept at most so many events is one of the first so many
+-- a prefix of at most n events is one of the first n events
 front-short : {A : Type 0} (m : Parts A) (h : List (Kept A)) (n : ℕ) (t : State A) → n ≤ length h → IsFront m h t → length t.kept ≤ n → IsFront m (take n h) t
 front-short m h n t within front few = record {
   model = front.model;
@@ -46,7 +46,7 @@ module _ {A : Type 0} (s t : State A) (h : List (Kept A)) (at : ℕ) (bs : List 
   size-before : length s.kept ≡ at
   size-before = ap (length {A = Kept A}) inside.kept ∙ length-take-le at h inside.within
 
-  -- it was refused
+  -- the event was refused
   module _ (rule : Rule) (by : Option ℕ) (refused : answer_to s e ≡ Refused rule by) where
     stays : t ≡ s
     stays = goes ∙ after-refused s e rule by refused
@@ -62,7 +62,7 @@ module _ {A : Type 0} (s t : State A) (h : List (Kept A)) (at : ℕ) (bs : List 
         ∙ sym (behind-same (session_of s h at bs) t (ap (λ (x : State A). length x.kept) stays ∙ size-before))
         ∙ sym by-state ∙ ap (λ (x : Session A). taken x e) view
 
-  -- it was admitted
+  -- the event was admitted
   module _ (place : ℕ) (ret : Option Ret) (admitted : answer_to s e ≡ Admitted place ret) (list : List (Kept A)) (longer : list ≡ take at h ++ record { event = e; ret = ret } ∷ []) where
     abbrev k : Kept A
     k = record { event = e; ret = ret }

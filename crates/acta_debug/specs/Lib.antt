@@ -1,6 +1,7 @@
 pub mod Histories
 pub mod Sessions
 pub mod Breaks
+pub mod Cursors
 pub mod Moves
 pub mod Stops
 pub mod inside

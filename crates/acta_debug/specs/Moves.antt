@@ -1,4 +1,4 @@
--- The moves of a debugger, or why one can't be made, and changes of its breaks.
+-- The moves of a debugger with their errors, and changes of its breaks.
 use Rattle.std.specs.Prelude.{ℕ, ◌+◌, ◌-◌, ◌==◌, nat_lt, nat_le, [], ◌∷◌, ◌++◌, length, if◌then◌else◌}
 use Rattle.std.specs.Prelude.{Result, Ok, Err}
 use Rattle.acta_table.specs.declared.event.Event.{Event}
@@ -9,7 +9,7 @@ use Rattle.acta_debug.specs.declared.errors.MoveError.TheVariants.{AtEnd, AtStar
 use Rattle.acta_debug.specs.Histories.{state_at}
 use Rattle.acta_debug.specs.Sessions.{Session, moved_to}
 
--- one event further
+-- one event forward
 abbrev pub stepped : {A : Type 0} → Session A → Result (Session A) MoveError
 stepped s = if nat_lt s.at (length s.history) then Ok (moved_to s (s.at + 1)) else Err AtEnd
 
@@ -17,24 +17,25 @@ stepped s = if nat_lt s.at (length s.history) then Ok (moved_to s (s.at + 1)) el
 abbrev pub stepped_back : {A : Type 0} → Session A → Result (Session A) MoveError
 stepped_back s = if s.at == 0 then Err AtStart else Ok (moved_to s (s.at - 1))
 
--- to behind n events
+-- to the place after n events
 abbrev pub gone_to : {A : Type 0} → Session A → ℕ → Result (Session A) MoveError
 gone_to s n = if nat_le n (length s.history) then Ok (moved_to s n) else Err OutOfRange
 
--- the debugger behind the last event of a machine that has taken one more, or as it was if the machine has kept no more
+-- the debugger after the last event of the machine, which has taken an event; unchanged if the machine refused the
+-- event
 abbrev pub behind : {A : Type 0} → Session A → State A → Session A
 behind s state =
     if length state.kept == s.at then s
     else record s { history = state.kept; at = length state.kept }
 
--- once the machine behind the place has taken an event
+-- the debugger after the machine at its place has taken an event
 abbrev pub taken : {A : Type 0} → Session A → Event A → Session A
 taken s event = behind s (after (state_at s.model s.history s.at) event)
 
--- with one more break, whose number is how many there are then
+-- one more break, numbered by how many there are then
 abbrev pub with_break : {A : Type 0} → Session A → Break → Session A
 with_break s b = record s { breaks = s.breaks ++ b ∷ [] }
 
--- with no break
+-- no breaks
 abbrev pub without_breaks : {A : Type 0} → Session A → Session A
 without_breaks s = record s { breaks = [] }

@@ -1,4 +1,4 @@
-//! Breaks, and where they hold.
+//! Breaks, and when they hold.
 
 ghost use Rattle.std.specs.Prelude.{◌≡◌, IfOk};
 ghost use Rattle.acta_table.specs.Events.{kind_of};
@@ -9,28 +9,28 @@ use acta_machine::{Handle, Machine};
 use acta_table::{Event, EventKind, ObjId, TxnId};
 use std::alloc::{AllocError, Allocator};
 
-/// Where a run is to stop: at a place, the next one at which this holds of the event that stands there, or of the
-/// machine after it.
+/// A condition that stops a run. It is tested at each place that the run reaches, on the event there and the machine
+/// after it.
 #[derive(Clone, Copy, PartialEq, Eq, Debug)]
 pub enum Break {
     /// The event is of this kind.
     Kind(EventKind),
-    /// The event names the transaction, in whatever part.
+    /// The event names the transaction in any part.
     Touches(TxnId),
     /// The event is an operation on the object.
     Object(ObjId),
-    /// Behind the event so many events are owed, or more.
+    /// At least this many debts exist after the event.
     OwedAtLeast(u32),
-    /// By the event the transaction commits, aborts or joins another.
+    /// The transaction commits, aborts or joins another by the event.
     Ended(TxnId),
 }
 
-/// Where a run has stopped.
+/// Where a run stopped.
 #[derive(Clone, Copy, PartialEq, Eq, Debug)]
 pub enum Stop {
-    /// At a place, from 1, at which the break of this number holds, from 1, and none with a lower number.
+    /// At a place, from 1, where the break with this number, from 1, is the lowest that holds.
     Broke { number: u64, place: u32 },
-    /// At the end.
+    /// At the end of the history.
     Finished,
 }
 
@@ -67,7 +67,7 @@ fn is_operation_on<A: Allocator>(event: &Event<A>, ob: ObjId) -> bool
     }
 }
 
-// Whether by the event the transaction commits, aborts or joins another.
+// Whether the transaction commits, aborts or joins another by the event.
 fn is_end_of<A: Allocator>(event: &Event<A>, t: TxnId) -> bool
     ensures { result ≡ ends t.0 event.now }
 {
@@ -78,7 +78,7 @@ fn is_end_of<A: Allocator>(event: &Event<A>, t: TxnId) -> bool
 }
 
 impl Break {
-    // Whether it holds of an event and of the machine after it.
+    // Whether the break holds for an event and the machine after it.
     fn holds<A: Handle>(self, event: &Event<A>, machine: &Machine<A>) -> Result<bool, AllocError>
         ensures { IfOk result (λ holds. holds ≡ holds_of machine.now event.now self) }
     {
@@ -92,7 +92,7 @@ impl Break {
     }
 }
 
-/// The lowest number of a break that holds of an event and of the machine after it.
+/// The lowest number of a break that holds for an event and the machine after it.
 pub fn lowest_that_holds<A: Handle>(
     breaks: &[Break],
     event: &Event<A>,

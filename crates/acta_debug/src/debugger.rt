@@ -23,19 +23,18 @@ use acta_table::{Answer, Event, Kept, MOST_EVENTS, Model};
 use std::alloc::AllocError;
 use std::mem::replace;
 
-// How many events before a place a checkpoint stands at most, where moves go back one by one. (No history is so long that
-// `mark` leaves more between the last checkpoint and its end.)
-const NEAR: usize = MOST_EVENTS / 64;
+// The distance in events, at most, between a place and a checkpoint before it when moves go back one by one.
+const NEAR: usize = 256;
 
-/// A history, a place in it, the machine as it was there, and breaks. Contracts see the model, the history, how many of
-/// its events are before the place of the debugger, and the breaks: the machine is what these events leave.
+/// A history, a place in it, the machine after the events before that place, and breaks. Contracts see the model, the
+/// history, the number of events before the place, and the breaks.
 #[derive(Drop)]
 pub struct Debugger<A: Handle> {
     machine: Machine<A>,
     history: Vec<Kept<A>, A>,
     at: usize,
     breaks: Vec<Break, A>,
-    // Machines that are after fronts of the history, from which a move goes on.
+    // Machines after prefixes of the history, from which moves can start.
     checkpoints: Vec<Machine<A>, A>,
 }
 
@@ -50,7 +49,7 @@ impl<A: Handle> std::marker::Model for Debugger<A> {
     ghost invariant = { λ d. IsBehind d.machine d.history.items d.at d.checkpoints.items };
 }
 
-// The same items, in memory of their own.
+// Returns a copy of the items.
 fn copied<A: Handle>(alloc: A, items: &[Kept<A>]) -> Result<Vec<Kept<A>, A>, AllocError>
     ensures { IfOk result (λ copies. copies.items ≡ items.now) }
 {
@@ -61,7 +60,7 @@ fn copied<A: Handle>(alloc: A, items: &[Kept<A>]) -> Result<Vec<Kept<A>, A>, All
     Ok(copies)
 }
 
-// Where among the machines that one is which has kept the most events, of those that have kept at most so many.
+// The index of the machine with the longest history among those with at most `events` events.
 fn nearest_of<A: Handle>(machines: &[Machine<A>], events: usize) -> Option<usize>
     ensures within { IfSome result (λ k. k < length machines.now) }
     ensures up_to { (t : State A) → IfSome result (λ k. length (slice_index_or machines.now k t).kept ≤ events) }
@@ -78,7 +77,7 @@ fn nearest_of<A: Handle>(machines: &[Machine<A>], events: usize) -> Option<usize
     found
 }
 
-// Whether one of the machines has kept so many events at least, and so many at most.
+// Whether one of the machines has kept at least `least` and at most `most` events.
 fn has_between<A: Handle>(machines: &[Machine<A>], least: usize, most: usize) -> bool {
     for machine in machines {
         let kept = machine.history().len();
@@ -89,7 +88,7 @@ fn has_between<A: Handle>(machines: &[Machine<A>], least: usize, most: usize) ->
     false
 }
 
-// How many events the machine has kept that is so many from the end, of which the last is one; 0 where there is none.
+// How many events machine number `number` from the end (1 is the last) has kept, or 0 if there is none.
 fn kept_from_end<A: Handle>(machines: &[Machine<A>], number: usize) -> usize {
     let Some(place) = machines.len().checked_sub(number) else {
         return 0;
@@ -100,14 +99,14 @@ fn kept_from_end<A: Handle>(machines: &[Machine<A>], number: usize) -> usize {
     }
 }
 
-// Whether the machine has kept at most so many events.
+// Whether the machine has kept at most this many events.
 fn has_kept_within<A: Handle>(machine: &Machine<A>, events: usize) -> bool
     ensures { result ≡ has_kept_within events machine.now }
 {
     machine.history().len() <= events
 }
 
-// Keeps those of the machines that have kept at most so many events.
+// Keeps the machines that have kept at most this many events.
 fn keep_within<A: Handle>(machines: &mut Vec<Machine<A>, A>, events: usize)
     ensures { machines.new.items ≡ filter (has_kept_within events) machines.old.items }
 {
@@ -115,10 +114,10 @@ fn keep_within<A: Handle>(machines: &mut Vec<Machine<A>, A>, events: usize)
 }
 
 impl<A: Handle> Debugger<A> {
-    /// A debugger on a history, at its start, with no break. It accepts exactly the lists that a machine on the model
-    /// keeps as its history when it takes their events. Of any other list `NotAHistory` has the first place, from 1,
-    /// at which the machine doesn't admit the event with the return that the list has there; so a list of more than
-    /// 65,536 events is no history. `Memory` if memory runs out. An error drops the model and the list.
+    /// A debugger on a history, at its start, with no breaks. It accepts exactly the lists that a machine on the model
+    /// keeps as its history when it takes their events. Otherwise `NotAHistory` has the first place, from 1, at which
+    /// the machine does not admit the event with the return in the list, so a list of more than 65,536 events is never
+    /// accepted. Returns `Memory` if memory runs out. An error drops the model and the list.
     pub fn new(alloc: A, model: Model<A>, history: Vec<Kept<A>, A>) -> Result<Debugger<A>, NewError>
         ensures ok { IfOk result (λ debugger. debugger ≡ opened model history.items) }
         ensures only { OnOk result (IsHistory model history.items) }
@@ -135,8 +134,8 @@ impl<A: Handle> Debugger<A> {
         }
     }
 
-    /// A debugger on what a machine on the model keeps of the events, at its start, with no break: the events are run
-    /// once. `Err` drops the model.
+    /// A debugger on the history that a machine on the model keeps of the events, at its start, with no breaks. The
+    /// events are run once. `Err` drops the model.
     pub fn of_events(
         alloc: A,
         model: Model<A>,
@@ -151,7 +150,7 @@ impl<A: Handle> Debugger<A> {
         Ok(Debugger::at_start(alloc, model, history, checkpoints)?)
     }
 
-    // A debugger on a history, at its start, with no break.
+    // A debugger on a history, at its start, with no breaks.
     fn at_start(
         alloc: A,
         model: Model<A>,
@@ -179,8 +178,8 @@ impl<A: Handle> Debugger<A> {
         }
     }
 
-    /// Moves one event further. `AtEnd` comes exactly where it is after the last event, and `Memory` if memory
-    /// runs out. An error leaves it where it was.
+    /// Moves one event forward. Returns `AtEnd` exactly if the debugger is after the last event, and `Memory` if memory
+    /// runs out. On an error it does not move.
     pub fn step(&mut self) -> Result<(), MoveError>
         ensures ok { OnOk result (stepped self.old ≡ Ok self.new) }
         ensures err { OnErr result (self.new ≡ self.old) }
@@ -197,8 +196,8 @@ impl<A: Handle> Debugger<A> {
         Ok(())
     }
 
-    /// Moves one event back. `AtStart` comes exactly where it is before the first event, and `Memory` if memory
-    /// runs out. An error leaves it where it was.
+    /// Moves one event back. Returns `AtStart` exactly if the debugger is before the first event, and `Memory` if
+    /// memory runs out. On an error it does not move.
     pub fn back(&mut self) -> Result<(), MoveError>
         ensures ok { OnOk result (stepped_back self.old ≡ Ok self.new) }
         ensures err { OnErr result (self.new ≡ self.old) }
@@ -214,8 +213,8 @@ impl<A: Handle> Debugger<A> {
         Ok(())
     }
 
-    /// Moves to the place after the first n events, of which 0 is the start. `OutOfRange` comes exactly where the history has
-    /// fewer events, and `Memory` if memory runs out. An error leaves it where it was.
+    /// Moves to the place after the first n events; 0 is the start. Returns `OutOfRange` exactly if the history has
+    /// fewer events, and `Memory` if memory runs out. On an error it does not move.
     pub fn goto(&mut self, n: u32) -> Result<(), MoveError>
         ensures ok { OnOk result (gone_to self.old n ≡ Ok self.new) }
         ensures err { OnErr result (self.new ≡ self.old) }
@@ -226,8 +225,8 @@ impl<A: Handle> Debugger<A> {
         self.goto_place(n)
     }
 
-    // Leaves a checkpoint a little before this place if it is a little before the present one, so that one move back after
-    // another takes few events. If memory runs out, none is left.
+    // Before a short move back, makes sure that a checkpoint is near, so that repeated moves back replay few events. If
+    // memory runs out, there is none.
     fn come_near(&mut self, n: usize)
         ensures { self.new ≡ self.old }
     {
@@ -250,22 +249,21 @@ impl<A: Handle> Debugger<A> {
         Ok(())
     }
 
-    /// Has the machine take an event where the debugger stands, and answers as the machine does. An event that is admitted
-    /// becomes the last of the history: the events after the place are forgotten. A refusal changes nothing, and neither
-    /// does `Err`, which comes if memory runs out.
+    /// Lets the machine take an event at the current place, and returns its answer. An admitted event becomes the last
+    /// of the history: later events are forgotten. A refusal changes nothing, and neither does `Err`.
     pub fn take(&mut self, event: &Event<A>) -> Result<Answer, AllocError>
         ensures answer { IfOk result (λ answer. answer ≡ answer_to (state_at self.old.model self.old.history self.old.at) event.now) }
         ensures ok { OnOk result (self.new ≡ taken self.old event.now) }
         ensures err { OnErr result (self.new ≡ self.old) }
     {
         let answer = self.take_here(event)?;
-        // (without a checkpoint a later move takes longer)
+        // (without a checkpoint later moves only take longer)
         let _marked = self.mark();
         Ok(answer)
     }
 
-    // Leaves a checkpoint if the last one is not near. It takes the place of the last one where that is close after
-    // the one before it: so all together keep some seventeen times the items of the history.
+    // Makes a checkpoint if the last one is not near. It replaces the last one if that is close to the one before it,
+    // so that all checkpoints together hold about seventeen times the items of the history.
     fn mark(&mut self) -> Result<(), AllocError>
         ensures { self.new ≡ self.old }
     {
@@ -278,8 +276,7 @@ impl<A: Handle> Debugger<A> {
         self.leave(step < LEAST_DISTANCE.max(kept / 16))
     }
 
-    // Leaves a copy of the machine as a checkpoint, in the place of the last one if it replaces that. `Err` leaves
-    // none.
+    // Stores a copy of the machine as a checkpoint, or as the last one if `replaces`. On `Err` none is stored.
     fn leave(&mut self, replaces: bool) -> Result<(), AllocError>
         ensures { self.new ≡ self.old }
     {
@@ -294,7 +291,7 @@ impl<A: Handle> Debugger<A> {
         Ok(())
     }
 
-    // Has the machine take an event, as `take` does.
+    // Lets the machine take an event, as `take` does.
     fn take_here(&mut self, event: &Event<A>) -> Result<Answer, AllocError>
         ensures answer { IfOk result (λ answer. answer ≡ answer_to (state_at self.old.model self.old.history self.old.at) event.now) }
         ensures ok { OnOk result (self.new ≡ taken self.old event.now) }
@@ -319,7 +316,7 @@ impl<A: Handle> Debugger<A> {
         Ok(answer)
     }
 
-    // A copy of the last of the checkpoints that are after no more than n events, or a new machine.
+    // A copy of the last checkpoint after at most n events, or a new machine.
     fn checkpoint_before(&self, n: usize) -> Result<Machine<A>, AllocError>
         ensures front { IfOk result (IsFront self.now.model self.now.history) }
         ensures before { IfOk result (λ machine. length machine.kept ≤ n) }
@@ -333,7 +330,7 @@ impl<A: Handle> Debugger<A> {
         }
     }
 
-    // A machine that is after no more than n events: a copy of its own where no checkpoint is nearer.
+    // A machine after at most n events: a copy of the current one unless a checkpoint is nearer.
     fn machine_before(&self, n: usize) -> Result<Machine<A>, AllocError>
         ensures front { IfOk result (IsFront self.now.model self.now.history) }
         ensures before { IfOk result (λ machine. length machine.kept ≤ n) }
@@ -361,8 +358,8 @@ impl<A: Handle> Debugger<A> {
         }
     }
 
-    // Sees to it that a checkpoint is after no more than n events, and not many fewer: where none does, the last
-    // of them is brought there. So one move back after another takes few events. `Err` leaves all as it was.
+    // Makes sure that a checkpoint is at most n and not many fewer events from the start, by moving the last one there
+    // if necessary. Then repeated moves back replay few events. On `Err` nothing changes.
     fn draw_near(&mut self, n: usize) -> Result<(), AllocError>
         requires { n ≤ length self.old.history }
         ensures { self.new ≡ self.old }
@@ -381,7 +378,39 @@ impl<A: Handle> Debugger<A> {
         Ok(())
     }
 
-    // Moves to the place after the first n events. `Err` leaves it where it was.
+    // Moves one event further, again and again, to the place after the first n events. `Err` may leave it before that.
+    fn step_to(&mut self, n: u32) -> Result<(), AllocError>
+        requires { n ≤ length self.old.history }
+        ensures ok { self.old.at ≤ n → OnOk result (self.new ≡ moved_to self.old n) }
+        ensures same { moved_to self.new n ≡ moved_to self.old n }
+    {
+        for _ in self.at()..n {
+            if self.step().is_err() {
+                return Err(AllocError);
+            }
+        }
+        Ok(())
+    }
+
+    // Moves to the place after the first n events, with the machine that it has where no checkpoint is nearer. `Err`, which comes
+    // if memory runs out, may leave it at another place.
+    pub(crate) fn come_to(&mut self, n: u32) -> Result<(), AllocError>
+        requires { n ≤ length self.old.history }
+        ensures ok { OnOk result (self.new ≡ moved_to self.old n) }
+        ensures same { moved_to self.new n ≡ moved_to self.old n }
+    {
+        if self.at <= n as usize
+            && !has_between(self.checkpoints.as_slice(), self.at + 1, n as usize)
+        {
+            return self.step_to(n);
+        }
+        match self.goto(n) {
+            Ok(()) => Ok(()),
+            Err(_) => Err(AllocError),
+        }
+    }
+
+    // Moves to the place after the first n events. On `Err` the debugger does not move.
     fn stand_behind(&mut self, n: usize) -> Result<(), AllocError>
         requires { n ≤ length self.old.history }
         ensures ok { OnOk result (self.new ≡ moved_to self.old n) }
@@ -393,9 +422,8 @@ impl<A: Handle> Debugger<A> {
         Ok(())
     }
 
-    /// Runs on: it steps until a break holds of the place just reached, and answers the place and the lowest number of
-    /// a break that holds there; or to the end, where none does. Where it is at first, none is looked at. `Err`
-    /// leaves it where it was.
+    /// Runs to the next place at which a break holds, and returns the place and the lowest number of such a break; or
+    /// to the end if there is none. Breaks are not tested at the current place. On `Err` the debugger does not move.
     pub fn run(&mut self) -> Result<Stop, AllocError>
         ensures stop { IfOk result (λ stop. stop ≡ stop_of self.old) }
         ensures first { IfOk result (IsStop self.old) }
@@ -419,7 +447,7 @@ impl<A: Handle> Debugger<A> {
 }
 
 impl<A: Handle> Debugger<A> {
-    /// How many events are before it: 0 at the start.
+    /// The number of events before the current place: 0 at the start.
     pub fn at(&self) -> u32
         ensures at { result ≡ self.now.at }
         ensures within { self.now.at ≤ length self.now.history }
@@ -427,7 +455,7 @@ impl<A: Handle> Debugger<A> {
         self.at as u32
     }
 
-    /// How many events the history has, at most 65,536: the place of the last one.
+    /// The number of events of the history, at most 65,536.
     pub fn last(&self) -> u32
         ensures last { result ≡ length self.now.history }
         ensures few { length self.now.history ≤ MOST_EVENTS }
@@ -445,7 +473,7 @@ impl<A: Handle> Debugger<A> {
         &self.machine
     }
 
-    /// Adds a break, and answers its number: the first has the number 1. `Err` leaves the breaks as they were.
+    /// Adds a break, and returns its number, from 1. On `Err` the breaks are unchanged.
     pub fn add_break(&mut self, one: Break) -> Result<u64, AllocError>
         ensures number { IfOk result (λ number. number ≡ length self.new.breaks) }
         ensures ok { OnOk result (self.new ≡ with_break self.old one) }
@@ -455,7 +483,7 @@ impl<A: Handle> Debugger<A> {
         Ok(self.breaks.len() as u64)
     }
 
-    /// Takes away all breaks: the next one has the number 1.
+    /// Removes all breaks. The next one gets the number 1.
     pub fn clear_breaks(&mut self)
         ensures { self.new ≡ without_breaks self.old }
     {

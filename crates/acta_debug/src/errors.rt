@@ -6,26 +6,26 @@ ghost use Rattle.acta_debug.specs.declared.errors.MoveError.TheVariants as movin
 
 use std::alloc::{AllocError, AllocFailed};
 
-/// Why there is no debugger.
+/// Why a debugger could not be made.
 #[derive(Clone, Copy, PartialEq, Eq, Debug)]
 pub enum NewError {
-    /// The list is no history: this is the first place, from 1, at which the machine doesn't admit the event with the
-    /// return that the list has there.
+    /// The list is not a history: at this place, from 1, the machine does not admit the event with the return in the
+    /// list.
     NotAHistory(u32),
-    /// There is no memory.
+    /// Memory ran out.
     Memory,
 }
 
 /// Why a debugger did not move.
 #[derive(Clone, Copy, PartialEq, Eq, Debug)]
 pub enum MoveError {
-    /// It is after the last event.
+    /// The debugger is after the last event.
     AtEnd,
-    /// It is before the first event.
+    /// The debugger is before the first event.
     AtStart,
     /// The history has fewer events.
     OutOfRange,
-    /// There is no memory.
+    /// Memory ran out.
     Memory,
 }
 

@@ -9,8 +9,8 @@ ghost use Rattle.acta_debug.specs.Histories.{IsHistory};
 
 use std::alloc::Allocator;
 
-/// What a machine has kept is a history, and so is each front of one. So there is a debugger on the history of any run,
-/// refused events or not.
+/// Everything that a machine has kept is a history, and so is every prefix of it. So there is a debugger for every run,
+/// whether or not events were refused.
 pub fn kept_histories<A: Allocator>()
     ensures runs { (m : Parts A) (es : List (Event A)) → IsHistory m (run_state m es).kept }
     ensures fronts { (m : Parts A) (h : List (Kept A)) → IsHistory m h → (n : ℕ) → IsHistory m (take n h) }

@@ -1,13 +1,15 @@
-//! The debugger: a history, a place in it, and the machine as it was there. It moves one event further or back, or to
-//! any place, and it runs on to where a break holds.
+//! The debugger: a history, a place in it, and the machine after the events before that place. It moves one event
+//! forward or back, moves to any place, and runs to the next place where a break holds. A cursor is a debugger whose
+//! machine moves only when it is needed.
 //!
-//! A function that gives up a machine, a model or a history gives it to `drop`: a function that drops it by itself drops
-//! each of its parts, at each early way out, and each is proved there.
+//! Functions drop machines, models and histories explicitly. An implicit drop would drop each part at each early
+//! return, and each of these must be proved.
 //!
 //! A call that allocates returns `Err` if memory runs out.
 #![tactic(auto)]
 
 mod breaks;
+mod cursor;
 mod debugger;
 mod errors;
 mod laws;
@@ -16,6 +18,7 @@ mod replay;
 mod running;
 
 pub use breaks::{Break, Stop};
+pub use cursor::Cursor;
 pub use debugger::Debugger;
 pub use errors::{MoveError, NewError};
 pub use laws::kept_histories;

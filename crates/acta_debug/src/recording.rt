@@ -1,4 +1,4 @@
-//! Recordings: a machine that takes events, and leaves copies of itself along the way.
+//! Recordings: a machine that takes events and makes checkpoints, copies of itself.
 
 ghost use Rattle.std.specs.Prelude.{◌≡◌, IfOk, OnErr, OnOk};
 ghost use Rattle.acta_machine.specs.Table.{after, after_all, answer_to, fresh};
@@ -8,23 +8,23 @@ use acta_machine::{Handle, Machine};
 use acta_table::{Answer, Event, Model};
 use std::alloc::AllocError;
 
-// How many checkpoints a recording makes at most, and after how many events at least the next one stands. Each keeps
-// all items in front of it: so together the checkpoints of the longest history keep some sixteen times its items.
+// The most checkpoints of a recording, and the least distance between them in events. A checkpoint holds all earlier
+// items, so the checkpoints of the longest history hold about sixteen times its items.
 const MOST_CHECKPOINTS: usize = 32;
 
 pub const LEAST_DISTANCE: usize = 64;
 
-// How many events stand between two checkpoints, where there are at most so many.
+// The distance between checkpoints for at most this many events.
 fn distance_for(events: usize) -> usize {
     LEAST_DISTANCE * events.div_ceil(MOST_CHECKPOINTS * LEAST_DISTANCE).max(1)
 }
 
-/// A machine that takes events, and its checkpoints: copies of it from along the way. Contracts see the machine.
+/// A machine that takes events, and its checkpoints: earlier copies of it. Contracts see the machine.
 #[derive(Drop)]
 pub struct Recording<A: Handle> {
     machine: Machine<A>,
     checkpoints: Vec<Machine<A>, A>,
-    // How many events stand between two checkpoints, and after how many the next one is due.
+    // The distance between checkpoints in events, and the number of events after which the next one is due.
     distance: usize,
     due: usize,
 }
@@ -41,7 +41,7 @@ impl<A: Handle> std::marker::Model for Recording<A> {
 }
 
 impl<A: Handle> Recording<A> {
-    /// A recording that has taken nothing, for so many events at most.
+    /// A new recording, for at most this many events.
     pub fn new(alloc: A, model: Model<A>, events: usize) -> Result<Recording<A>, AllocError>
         ensures { IfOk result (λ recording. recording ≡ fresh model) }
     {
@@ -62,7 +62,7 @@ impl<A: Handle> Recording<A> {
         &self.machine
     }
 
-    // Leaves a checkpoint where one is due. On `Err` none is left.
+    // Makes a checkpoint if one is due. On `Err` there is none.
     fn mark(&mut self) -> Result<(), AllocError>
         ensures { self.new ≡ self.old }
     {
@@ -86,7 +86,7 @@ impl<A: Handle> Recording<A> {
         Ok(answer)
     }
 
-    /// Takes the events, in order. On `Err` it may have taken some.
+    /// Takes the events, in order. On `Err` some may have been taken.
     pub fn take_all(&mut self, events: &[Event<A>]) -> Result<(), AllocError>
         ensures { OnOk result (self.new ≡ after_all self.old events.now) }
     {
@@ -96,7 +96,7 @@ impl<A: Handle> Recording<A> {
         Ok(())
     }
 
-    /// The checkpoints, of which the machine itself is the last.
+    /// The checkpoints, followed by the machine itself.
     pub fn checkpoints(self) -> Result<Vec<Machine<A>, A>, AllocError>
         ensures { IfOk result (λ checkpoints. AreFronts self.model self.kept checkpoints.items) }
     {

@@ -1,4 +1,4 @@
-//! Replays: a machine that goes on along a history, and whether a list is one.
+//! Replays: a machine takes the events of a history, or finds that a list is not one.
 
 ghost use Rattle.std.specs.Prelude.{◌≡◌, ◌≤◌, ℕ, length, Decides, Err, IfNone, IfOk, IfSome, IsOkUnless, OnOk};
 ghost use Rattle.acta_table.specs.declared.answer.Answer.TheVariants.{Admitted};
@@ -15,7 +15,7 @@ use acta_machine::{Handle, Machine};
 use acta_table::{Answer, Kept, Model, Ret};
 use std::alloc::AllocError;
 
-/// Has the machine take the events of the items, in order. On `Err` it may have taken some.
+/// Lets the machine take the events of the items, in order. On `Err` some may have been taken.
 pub fn take_events<A: Handle>(machine: &mut Machine<A>, items: &[Kept<A>]) -> Result<(), AllocError>
     requires { FollowsPlaces machine.old }
     ensures machine { OnOk result (machine.new ≡ after_all machine.old (events_in items.now)) }
@@ -34,9 +34,8 @@ fn is_admitted(answer: Answer, place: u32, ret: Option<Ret>) -> bool
     answer == (Answer::Admitted { place, ret })
 }
 
-// Has the recording, which has kept nothing, take the events of the items, in order, up to the first that it doesn't
-// admit with the return that the item has, and answers the place of that one, from 1. Where there is none it answers
-// nothing, and has kept the items. On `Err` it may have taken some.
+// Lets a new recording take the events of the items, in order, up to the first that is not admitted with the return of
+// its item. Returns the place of that item, from 1, or `None` if all were kept. On `Err` some may have been taken.
 fn first_other_on<A: Handle>(
     recording: &mut Recording<A>,
     items: &[Kept<A>],
@@ -59,8 +58,8 @@ fn first_other_on<A: Handle>(
     Ok(None)
 }
 
-/// The checkpoints along the items, where they are a history. Of any other list `NotAHistory` has the first place,
-/// from 1, at which it is none. `Memory` if memory runs out.
+/// The checkpoints along the items, if they are a history. Otherwise `NotAHistory` has the first place, from 1, that
+/// does not fit. Returns `Memory` if memory runs out.
 pub fn accepted<A: Handle>(
     alloc: A,
     model: &Model<A>,

@@ -1,4 +1,4 @@
-//! A run: on to the first place ahead at which a break holds.
+//! Runs to the next place at which a break holds.
 
 ghost use Rattle.std.specs.Prelude.{◌≡◌, length, IfOk, OnOk};
 ghost use Rattle.acta_debug.specs.Stops.{stop_of, stopped_at};
@@ -9,7 +9,7 @@ use acta_machine::{Handle, Machine};
 use acta_table::Kept;
 use std::alloc::AllocError;
 
-/// Behind how many events of so many a run has stopped.
+/// The number of events before the place where a run stopped, if the history has `last` events.
 pub fn place_of(stop: Stop, last: usize) -> usize
     ensures { result ≡ stopped_at last stop }
 {
@@ -19,8 +19,8 @@ pub fn place_of(stop: Stop, last: usize) -> usize
     }
 }
 
-/// Has the machine, which has taken the events up to the place, take those ahead, in order, up to the first after
-/// which a break holds, and says where it stopped. On `Err` it may have taken some.
+/// Lets the machine, which has taken the first `at` events, take the following ones up to the first after which a break
+/// holds, and returns where it stopped. On `Err` some may have been taken.
 pub fn run_on<A: Handle>(
     machine: &mut Machine<A>,
     history: &[Kept<A>],

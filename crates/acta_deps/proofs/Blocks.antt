@@ -1,4 +1,4 @@
--- What a refusal by the edges in force names is there.
+-- The edge or transaction that a refusal names exists.
 use Rattle.std.proofs.Common.{◌≡◌, ◌≢◌, ℕ, zero, suc, ◌+◌, ◌≤◌, Bool, true, false, ◌||◌, cond, List, [], ◌∷◌, slice_get, Option, Some, None, refl, sym, ap, ◌∙◌, subst, arith}
 use Rattle.std.specs.List.{list_any, position_from}
 use Rattle.std.specs.Prelude.{option_map, IfSome}
@@ -34,7 +34,7 @@ none_from : (test : Edge → Bool) (k : ℕ) (es : List Edge) → position_from 
 none_from test k [] e = refl
 none_from test k (x ∷ es) e = none_step (test x) (list_any test es) k (position_from test (k + 1) es) (none_from test (k + 1) es) e
 
--- where one of this number owes both events, there is an edge by which it owes each
+-- if a transaction owes both events, there is an edge by which it owes each
 pub owing-first : (s : ℕ → Status) (es : List Edge) (n : ℕ) (missing : Missing) → clashing s es ≡ Some n → first_number (owes missing s n) es ≡ None → ⊥
 owing-first s es n missing is none =
     let both = and_parts (list_any (owes_commit s n) es) (list_any (owes_abort s n) es) (sym (in_owing s es n) ∙ least-in (owing_both s es) n is) in
@@ -46,7 +46,7 @@ owing-first s es n missing is none =
 
 -- What a refusal names
 
--- a clash names the smallest that would owe both, and another rule an edge that is there
+-- a clash names the smallest transaction that would owe both, and any other rule an edge that exists
 abbrev IsReported : (ℕ → Status) → List Edge → Refusal → Type 0
 IsReported after es r =
     (r.rule ≡ Clash → (n : ℕ) × (r.by ≡ Some n) × (clashing after es ≡ Some n))
@@ -126,7 +126,7 @@ join-reported s es t =
     (edge-reported after es OwesAbort (owes_abort s t) (λ e. cc)))
     (edge-reported after es OwesCommit (owes_commit s t) (λ e. cc))
 
--- what a change of one status breaks names what is there
+-- the number named by a refused change of status exists
 pub refusal-reported : (s : ℕ → Status) (es : List Edge) (t : ℕ) (st : Status) (r : Refusal) → refusal_to s es t st ≡ Some r → IsReported (with_status s t st) es r
 refusal-reported s es t NotBegun r e = absurd (none-some e)
 refusal-reported s es t InProgress r e = start-reported s es t r e
@@ -156,12 +156,12 @@ first-passes : {X : Type 0} (test : X → Bool) (xs : List X) (n : ℕ) (x : X) 
 first-passes test xs zero x e is = absurd (none-some is)
 first-passes test xs (suc m) x e is = passes-from test 1 (suc m) m xs x e (omega arith) is
 
--- the edge of the number that was found is there
+-- the edge with the number that was found exists
 pub numbered-first : (test : Edge → Bool) (es : List Edge) (n : ℕ) (o : Option NumberedEdge) → Some n ≡ first_number test es → option_map (λ (one : NumberedEdge). one.edge) o ≡ item_at es n → IfSome o (λ one. one.number ≡ n) → option_map (λ (one : NumberedEdge). one.number) o ≡ first_number test es
 numbered-first test es n None is edge number = absurd (first-there test es n (sym is) (sym edge))
 numbered-first test es n (Some one) is edge number = (λ i. Some (number i)) ∙ is
 
--- its transaction is the one that owes
+-- its dependent is the transaction that owes
 pub numbered-party : (missing : Missing) (s : ℕ → Status) (t : ℕ) (es : List Edge) (n : ℕ) (o : Option NumberedEdge) → Some n ≡ first_number (owes missing s t) es → option_map (λ (one : NumberedEdge). one.edge) o ≡ item_at es n → IfSome o (λ one. one.edge.j.0 ≡ t)
 numbered-party missing s t es n None is edge = tt
 numbered-party missing s t es n (Some one) is edge = owes_party missing s t one.edge (first-passes (owes missing s t) es n one.edge (sym is) (sym edge))

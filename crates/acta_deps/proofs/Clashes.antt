@@ -1,4 +1,4 @@
--- Who owes both a commit and an abort, after the status of one transaction changed.
+-- Which transactions owe both a commit and an abort after one status changed.
 use Rattle.std.proofs.Common.{◌≡◌, ℕ, ◌<◌, ◌≤◌, ◌-◌, length, get_or, arith, Bool, true, false, ◌&&◌, ◌||◌, ◌==◌, List, [], ◌∷◌, ◌++◌, map, filter, Option, Some, None, is_some, refl, sym, ap, ◌∙◌, inl, inr, if◌then◌else◌}
 use Rattle.std.specs.List.{list_any}
 use Rattle.std.proofs.lemmas.Bool.{eqb-true, true≢false, or_parts, or_cases, or_left, or_right, and_parts, and_from, or_from, false_from_ne_true, ne_eqb, eq-eqb}
@@ -53,7 +53,7 @@ both-in s all u (e ∷ es) =
     ap (λ b. ((e.j.0 == u) && clashes_by s all e) || b) (both-in s all u es)
     ∙ both-by s all u e (list_any (owes_commit s u) es) (e.j.0 == u) refl
 
--- those who clash are those who owe both
+-- the clashing transactions are those that owe both
 pub in_owing : (s : ℕ → Status) (es : List Edge) (u : ℕ) → has (owing_both s es) u ≡ owes_both s es u
 in_owing s es u = shown (clashes_by s es) u es ∙ both-in s es u es
 
@@ -66,7 +66,7 @@ pub none_any : (test : Edge → Bool) (es : List Edge) → ((e : Edge) → test 
 none_any test [] h = refl
 none_any test (e ∷ es) h = (λ i. h e i || none_any test es h i)
 
--- unless r passes somewhere, where p does q does
+-- either r passes somewhere, or q passes wherever p does
 pub any-unless : (p q r : Edge → Bool) → ((e : Edge) → r e ≡ false → p e ≡ true → q e ≡ true) → (es : List Edge) → list_any r es ≡ false → list_any p es ≡ true → list_any q es ≡ true
 any-unless p q r step [] none h = h
 any-unless p q r step (e ∷ es) none h =
@@ -81,7 +81,7 @@ any-unless p q r step (e ∷ es) none h =
 pub same-debt : (s : ℕ → Status) (t : ℕ) (new : Status) (e : Edge) → (e.i.0 == t) ≡ false → (e.j.0 == t) ≡ false → debt_of (with_status s t new) e ≡ debt_of s e
 same-debt s t new e i j = λ x. debt_by e.kind (if i x then new else s e.i.0) (if j x then new else s e.j.0)
 
--- one that owes by this edge after the change, by no edge that tears it, did before
+-- a transaction that owes by this edge after the change, but not both by an edge on the changed one, did so before
 before : (is : Option Missing → Bool) → is None ≡ false → (s : ℕ → Status) (t : ℕ) (new : Status) (es : List Edge) (u : ℕ) → (u == t) ≡ false → owes_both (with_status s t new) es u ≡ true
     → (e : Edge) → ((e.j.0 == u) && would_owe_both (with_status s t new) es t e) ≡ false → ((e.j.0 == u) && is (debt_of (with_status s t new) e)) ≡ true → ((e.j.0 == u) && is (debt_of s e)) ≡ true
 before is nothing s t new es u other both e calm h = of (e.i.0 == t) refl
@@ -106,7 +106,7 @@ before is nothing s t new es u other both e calm h = of (e.i.0 == t) refl
     of true on = absurd (true≢false (sym (and_from (e.j.0 == u) (would_owe_both s' es t e) on_u (and_from ((e.i.0 == t) && is_some (debt_of s' e)) (owes_both s' es e.j.0) (and_from (e.i.0 == t) (is_some (debt_of s' e)) on (some (debt_of s' e) owed)) (ap (owes_both s' es) same ∙ both))) ∙ calm))
     of false on = and_from (e.j.0 == u) (is (debt_of s e)) on_u (ap is (sym (same-debt s t new e on (ap (λ v. v == t) same ∙ other))) ∙ owed)
 
--- The one that changes, where it owes both, and those that an edge on it tears
+-- the changed transaction, if it owes both, and the dependents that owe both by an edge on it
 
 abbrev pub all_owing_both : (ℕ → Status) → List Edge → ℕ → List ℕ
 all_owing_both s es t = (if owes_both s es t then t ∷ [] else []) ++ map (λ (e : Edge). e.j.0) (filter (would_owe_both s es t) es)
@@ -157,7 +157,7 @@ first-least : (t : ℕ) (ns : List ℕ) (b : Bool) → least_from (if b then Som
 first-least t ns true = least_is_smallest (t ∷ ns)
 first-least t ns false = least_is_smallest ns
 
--- where nobody owed both, the smallest who does after the change is the smallest of those
+-- if no transaction owed both, the smallest that does after the change is the smallest of those
 pub clashing_is_owing_both : (s : ℕ → Status) (t : ℕ) (new : Status) (es : List Edge) → ((u : ℕ) → owes_both s es u ≡ false)
     → least_from (if owes_both (with_status s t new) es t then Some t else None) (map (λ (e : Edge). e.j.0) (filter (would_owe_both (with_status s t new) es t) es)) ≡ clashing (with_status s t new) es
 clashing_is_owing_both s t new es clear =
@@ -165,7 +165,7 @@ clashing_is_owing_both s t new es clear =
     first-least t (map (λ (e : Edge). e.j.0) (filter (would_owe_both s' es t) es)) (owes_both s' es t)
     ∙ smallest_same (all_owing_both s' es t) (owing_both s' es) (λ u. all_owing_both-by s t new es u (clear u) (owes_both s' es u) refl ∙ sym (in_owing s' es u))
 
--- One that owes by the edge owes both where it owes the other
+-- a transaction that owes one event by the edge owes both exactly if it owes the other
 
 other-by : (x : Bool) (s : ℕ → Status) (es : List Edge) (e : Edge) (o : Option Missing) → debt_of s e ≡ o → (o ≡ Some Commit → list_any (owes_commit s e.j.0) es ≡ true) → (o ≡ Some Abort → list_any (owes_abort s e.j.0) es ≡ true) → ((x && is_some o) && owes_both s es e.j.0) ≡ (x && other_of o (list_any (owes_commit s e.j.0) es) (list_any (owes_abort s e.j.0) es))
 other-by true s es e None is commit abort = refl

@@ -1,4 +1,4 @@
--- That nobody owes both a commit and an abort stays so.
+-- Invariant: no transaction owes both a commit and an abort.
 use Rattle.std.proofs.Common.{◌≡◌, ℕ, zero, suc, get_or, arith, Bool, true, false, ◌&&◌, ◌==◌, List, [], ◌∷◌, ◌++◌, take, drop, Option, Some, None, refl, sym, ap, ◌∙◌, inl, inr, ◌⊎◌, if◌then◌else◌}
 use Rattle.std.specs.List.{list_any, All}
 use Rattle.std.specs.Option.{option_or}
@@ -94,7 +94,7 @@ join_clear s es t clear u =
 
 -- Edges by which nothing is owed
 
--- one that has not ended has neither committed nor aborted
+-- a transaction that has not ended has neither committed nor aborted
 pub undecided : (i : Status) → has_ended i ≡ false → (has_committed i ≡ false) × (has_aborted i ≡ false)
 undecided NotBegun h = (refl, refl)
 undecided InProgress h = (refl, refl)
@@ -102,7 +102,7 @@ undecided Committed h = absurd (true≢false h)
 undecided Aborted h = absurd (true≢false h)
 undecided Joined h = absurd (true≢false h)
 
--- nothing is owed by an edge whose i has neither committed nor aborted
+-- an edge has no debt while its i has neither committed nor aborted
 pub not_ended : (kind : Dep) (i j : Status) → (has_committed i ≡ false) × (has_aborted i ≡ false) → debt_by kind i j ≡ None
 not_ended Scd i j h = ap (λ b. missing_if (b && may_end j) Commit) h.0
 not_ended Ad i j h = ap (λ b. missing_if (b && may_end j) Abort) h.1
@@ -111,7 +111,7 @@ not_ended Cmd i j h = ap (λ b. missing_if (b && may_end j) Commit) h.1
 not_ended Ed i j h = ap (λ b. missing_if (b && is_in_progress j) Abort) h.0
 not_ended _ i j h = refl
 
--- nor by one of a kind that limits when j begins
+-- nor has an edge of a kind that limits when j begins
 pub of_begin : (kind : Dep) (i j : Status) → is_begin_kind kind ≡ true → debt_by kind i j ≡ None
 of_begin Cd i j h = refl
 of_begin Scd i j h = absurd (true≢false (sym h))
@@ -142,7 +142,7 @@ form_clear s es more times clear u =
     (λ i. any_formed (owes_commit s u) es more (none-owed is_commit refl s u more times) i && any_formed (owes_abort s u) es more (none-owed is_abort refl s u more times) i)
     ∙ clear u
 
--- Edges that are taken back
+-- Edges that are removed again
 
 any-front : (test : Edge → Bool) (es : List Edge) (n : ℕ) → list_any test (take n es) ≡ true → list_any test es ≡ true
 any-front test es n h =

@@ -21,7 +21,7 @@ more_with : (edges : List Edge) (f : Edge) (known : Bool) → length (if known t
 more_with edges f true = omega arith
 more_with edges f false = rw length-append (omega arith)
 
--- and at most as many more as were to be formed
+-- and at most as many more as were given
 pub few_formed : (edges more : List Edge) → length (formed edges more) ≤ length edges + length more
 few_formed edges [] = omega arith
 few_formed edges (f ∷ fs) =
@@ -29,7 +29,7 @@ few_formed edges (f ∷ fs) =
     let all : length (formed (with_edge edges f) fs) ≤ length (with_edge edges f) + length fs = few_formed (with_edge edges f) fs in
     omega arith
 
--- where all that will be formed fit, the edges with the next one do
+-- if all that are to be formed fit, the edges with the next one fit
 pub next_fits : (edges more all : List Edge) (k : ℕ) (d : Edge) (room : ℕ) → k < length more → formed edges (drop k more) ≡ all → length all ≤ room → length (with_edge edges (get_or more k d)) ≤ room
 next_fits edges more all k d room h ends fits =
     let e : Edge = get_or more k d in
@@ -49,7 +49,7 @@ formed_behind edges (f ∷ fs) =
     let all = formed_behind (with_edge edges f) fs in
     (one.0 ++ all.0, all.1 ∙ ap (λ (xs : List Edge). xs ++ all.0) one.1 ∙ append_assoc edges one.0 all.0)
 
--- those in force stay in front
+-- the earlier edges stay a prefix
 pub take_formed : (edges more : List Edge) → take (length edges) (formed edges more) ≡ edges
 take_formed edges more =
     let behind = formed_behind edges more in

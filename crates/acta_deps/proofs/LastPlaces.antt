@@ -1,10 +1,10 @@
--- Where a number stands last in a list, and what a push or a pop leaves of that.
+-- The last place of a number in a list, after a push or a pop.
 use Rattle.std.proofs.Common.{◌≡◌, ℕ, zero, suc, ◌+◌, ◌<◌, ◌≤◌, Bool, true, false, ◌==◌, List, [], ◌∷◌, ◌++◌, length, take, get_or, slice_set, refl, sym, ap, ◌∙◌, inl, inr, arith, if◌then◌else◌, add-one}
 use Rattle.std.proofs.lemmas.Bool.{cond_both, cases_eq, cases_lt, eq-eqb, ne_eqb, eqb-true}
 use Rattle.std.proofs.lemmas.List.{get_or_append_left, get_or-take, get_or_push, get_or_past, get_or-set_same, get_or-set_other, length_push, length-take-le}
 use Rattle.acta_deps.specs.inside.Places.{latest}
 
--- one place more, where t stands there and where another does
+-- one place more: if t is there, and if another is
 at-same : (ts : List ℕ) (t n : ℕ) → get_or ts n 0 ≡ t → latest ts t (suc n) ≡ suc n
 at-same ts t n e = ap (λ b. if b then suc n else latest ts t n) (eq-eqb (get_or ts n 0) t e)
 
@@ -17,7 +17,7 @@ latest_le ts t (suc n) =
     let h : latest ts t n ≤ n = latest_le ts t n in
     cond_both (get_or ts n 0 == t) (suc n) (latest ts t n) (λ x. x ≤ suc n) (λ _. omega arith) (λ _. omega arith)
 
--- lists that begin equivalent have the same places there
+-- lists with a common prefix have the same places there
 latest_same : (ts us : List ℕ) (t n : ℕ) → ((k : ℕ) → k < n → get_or ts k 0 ≡ get_or us k 0) → latest ts t n ≡ latest us t n
 latest_same ts us t zero h = refl
 latest_same ts us t (suc n) h =
@@ -29,7 +29,7 @@ latest_front ts us t n h = latest_same (ts ++ us) ts t n (λ k l. get_or_append_
 latest_take : (ts : List ℕ) (m t n : ℕ) → n ≤ m → latest (take m ts) t n ≡ latest ts t n
 latest_take ts m t n h = latest_same (take m ts) ts t n (λ k l. get_or-take m ts k 0 (omega arith))
 
--- where t stands, its last place is no earlier
+-- t's last place is not before any place of t
 latest_behind : (ts : List ℕ) (t n k : ℕ) → k < n → get_or ts k 0 ≡ t → k < latest ts t n
 latest_behind ts t zero k h e = absurd (omega arith)
 latest_behind ts t (suc n) k h e =
@@ -40,7 +40,7 @@ latest_behind ts t (suc n) k h e =
           cond_both (get_or ts n 0 == t) (suc n) (latest ts t n) (λ x. k < x) (λ _. omega arith) (λ _. before)
     ]
 
--- at its last place t stands, where it is known whether it does at the next place, and where it stands before
+-- t is at its last place: by whether it is at the next place, and whether it occurs before
 at-latest-by : (ts : List ℕ) (t n m : ℕ) (b : Bool) → (get_or ts n 0 == t) ≡ b → latest ts t (suc n) ≡ suc m → (latest ts t n ≡ suc m → get_or ts m 0 ≡ t) → get_or ts m 0 ≡ t
 at-latest-by ts t n m true e h before =
     let one : latest ts t (suc n) ≡ suc n = at-same ts t n (eqb-true _ _ e) in
@@ -52,7 +52,7 @@ pub at_latest : (ts : List ℕ) (t n m : ℕ) → latest ts t n ≡ suc m → ge
 at_latest ts t zero m h = absurd (omega arith)
 at_latest ts t (suc n) m h = at-latest-by ts t n m (get_or ts n 0 == t) refl h (at_latest ts t n m)
 
--- each that stands in the list has its own entry in the table of last places
+-- every transaction in the list has an entry in the table of last places
 pub in_table : (ts last : List ℕ) → ((t : ℕ) → get_or last t 0 ≡ latest ts t (length ts)) → (k : ℕ) → k < length ts → get_or ts k 0 < length last
 in_table ts last lasts k h =
     elim (cases_lt (get_or ts k 0) (length last)) [
@@ -68,7 +68,7 @@ in_table ts last lasts k h =
 long : (ts : List ℕ) (t : ℕ) → length (ts ++ t ∷ []) ≡ suc (length ts)
 long ts t = length_push ts t ∙ add-one (length ts)
 
--- the last places after one is put behind the others
+-- the last places after one number is appended
 pub last_pushed : (ts last : List ℕ) (t : ℕ) → t < length last → ((u : ℕ) → get_or last u 0 ≡ latest ts u (length ts)) → (u : ℕ) → get_or (slice_set last t (length (ts ++ t ∷ []))) u 0 ≡ latest (ts ++ t ∷ []) u (length (ts ++ t ∷ []))
 last_pushed ts last t h lasts u =
     elim (cases_eq u t) [
@@ -105,7 +105,7 @@ before_pushed ts before t x linked is befores k h =
           ∙ ap (λ u. latest (ts ++ t ∷ []) u k) (sym (get_or_push ts t 0 k (sym last)))
     ]
 
--- the last places after the last one is taken away
+-- the last places after the last number is removed
 pub last_popped : (ts last : List ℕ) (n x : ℕ) → length ts ≡ suc n → get_or ts n 0 < length last → x ≡ latest ts (get_or ts n 0) n → ((u : ℕ) → get_or last u 0 ≡ latest ts u (length ts)) → (u : ℕ) → get_or (slice_set last (get_or ts n 0) x) u 0 ≡ latest (take n ts) u (length (take n ts))
 last_popped ts last n x all h is lasts u =
     let t : ℕ = get_or ts n 0 in
@@ -126,7 +126,7 @@ last_popped ts last n x all h is lasts u =
           ∙ front
     ]
 
--- the places before those that are left
+-- the earlier places of the transactions that remain
 pub before_popped : (ts before : List ℕ) (n : ℕ) → n ≤ length ts → ((k : ℕ) → k < length ts → get_or before k 0 ≡ latest ts (get_or ts k 0) k) → (k : ℕ) → k < length (take n ts) → get_or (take n before) k 0 ≡ latest (take n ts) (get_or (take n ts) k 0) k
 before_popped ts before n h befores k l =
     let rest : length (take n ts) ≡ n = length-take-le n ts h in

@@ -2,6 +2,7 @@ pub mod FormedEdges
 mod LastPlaces
 mod Blocks
 mod StatusTables
+pub mod Upon
 mod Walks
 mod SmallestSame
 mod Clashes

@@ -1,4 +1,4 @@
--- How many edges are new among some that are to be formed.
+-- How many of some edges are new.
 use Rattle.std.proofs.Common.{◌≡◌, ℕ, ◌+◌, ◌<◌, Bool, true, false, ◌&&◌, ◌||◌, ◌==◌, List, [], ◌∷◌, ◌++◌, length, take, drop, get_or, refl, sym, ap, ◌∙◌, if◌then◌else◌, arith, length-append}
 use Rattle.std.specs.List.{All, list_any}
 use Rattle.std.proofs.lemmas.Bool.{eqb-true, and_parts, and_right, false_from_ne_true}
@@ -17,7 +17,7 @@ or-or : (a b c : Bool) → ((a || b) || c) ≡ (a || (b || c))
 or-or true b c = refl
 or-or false b c = refl
 
--- edges that are one are among the same edges
+-- equal edges are members of the same lists
 same-among : (es : List Edge) (e f : Edge) → same_edge e f ≡ true → is_among es e ≡ is_among es f
 same-among es e f h =
     let ends = and_parts ((code_of e.kind == code_of f.kind) && (e.j.0 == f.j.0)) (e.i.0 == f.i.0) h in
@@ -37,7 +37,7 @@ among-with-by : (es : List Edge) (f e : Edge) (known : Bool) → is_among es f �
 among-with-by es f e true known = named-by es f e (same_edge e f) refl known
 among-with-by es f e false known = list_any-append (same_edge e) es (f ∷ []) ∙ ap (λ b. is_among es e || b) (or-false (same_edge e f))
 
--- an edge is in force after some were formed where it was before, or is one of them
+-- an edge is in force after forming if it was before or is among those formed
 pub among_formed : (es more : List Edge) (e : Edge) → is_among (formed es more) e ≡ (is_among es e || is_among more e)
 among_formed es [] e = sym (or-false (is_among es e))
 among_formed es (f ∷ fs) e =
@@ -49,7 +49,7 @@ length-with : (es : List Edge) (e : Edge) (known : Bool) → length (if known th
 length-with es e true = omega arith
 length-with es e false = rw length-append (omega arith)
 
--- one more edge to be formed counts where it is neither in force nor named before
+-- one more edge counts if it is neither in force nor listed before
 count-next : (es more : List Edge) (k : ℕ) (d : Edge) → k < length more → (known : Bool) → (is_among es (get_or more k d) || is_among (take k more) (get_or more k d)) ≡ known → length (formed es (take (k + 1) more)) ≡ length (formed es (take k more)) + (if known then 0 else 1)
 count-next es more k d h known is =
     let e : Edge = get_or more k d in
@@ -76,11 +76,11 @@ apart e f lower =
     and_right ((code_of e.kind == code_of f.kind) && (e.j.0 == f.j.0)) (e.i.0 == f.i.0)
     (false_from_ne_true (e.i.0 == f.i.0) (λ h. let same : e.i.0 ≡ f.i.0 = eqb-true _ _ h in absurd (omega arith)))
 
--- an edge is none of those with a lower `i`
+-- an edge is not among edges with a lower `i`
 pub none_named : (es : List Edge) (e : Edge) → All (λ f. f.i.0 < e.i.0) es → is_among es e ≡ false
 none_named es e lower = list_any_none (same_edge e) es (λ k d l. apart e (get_or es k d) (lower k d l))
 
--- where those in front have a lower `i`, only the others count
+-- if all earlier edges have a lower `i`, only the others count
 pub among-drop : (es : List Edge) (start : ℕ) (e : Edge) → All (λ f. f.i.0 < e.i.0) (take start es) → is_among es e ≡ is_among (drop start es) e
 among-drop es start e lower =
     ap (λ (xs : List Edge). is_among xs e) (sym (take-append-drop start es))

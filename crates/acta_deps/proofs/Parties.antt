@@ -1,4 +1,4 @@
--- What an edge blocks, it blocks for its party.
+-- An edge blocks only its party.
 use Rattle.std.proofs.Common.{◌≡◌, ℕ, Bool, true, ◌&&◌, ◌==◌, List, is_some}
 use Rattle.std.proofs.lemmas.Bool.{and_parts, eqb-true}
 use Rattle.acta_table.specs.declared.dep.Edge.{Edge}

@@ -1,4 +1,4 @@
--- Lists of the same numbers have the same smallest.
+-- Lists with the same numbers have the same smallest number.
 use Rattle.std.proofs.Common.{◌≡◌, ℕ, ◌≤◌, Bool, true, false, ◌==◌, List, [], ◌∷◌, ◌++◌, Option, Some, None, min, refl, sym, ap, ◌∙◌, inl, inr, arith, ◌⊎◌}
 use Rattle.std.specs.Option.{option_map_or}
 use Rattle.std.specs.List.{list_any}
@@ -6,7 +6,7 @@ use Rattle.std.proofs.lemmas.Bool.{cases_lt, eq-eqb, eqb-true, or_cases, or_left
 use Rattle.acta_table.specs.Numbered.{smallest}
 use Rattle.acta_table.proofs.Smallest.{least_from}
 
--- whether a number is among these
+-- whether a number is in the list
 abbrev pub has : List ℕ → ℕ → Bool
 has ns u = list_any (λ n. n == u) ns
 
@@ -25,7 +25,7 @@ least-in-by n ns m (Some k) is before e =
       | inr more ↦ or_right (n == m) (has ns m) (let same : k ≡ m = omega arith in ap (has ns) (sym same) ∙ before k refl)
     ]
 
--- the smallest is one of them
+-- the smallest is in the list
 pub least-in : (ns : List ℕ) (m : ℕ) → smallest ns ≡ Some m → has ns m ≡ true
 least-in [] m e = absurd (none-some (smallest []) refl e)
 least-in (n ∷ ns) m e = least-in-by n ns m (smallest ns) refl (λ k is. least-in ns k is) e
@@ -40,7 +40,7 @@ none-has : (ns : List ℕ) (u : ℕ) → smallest ns ≡ None → has ns u ≡ t
 none-has [] u e h = true≢false (sym h)
 none-has (n ∷ ns) u e h = none-some (smallest (n ∷ ns)) e refl
 
--- none of them is smaller
+-- no number in the list is smaller
 least-low : (ns : List ℕ) (m u : ℕ) → smallest ns ≡ Some m → has ns u ≡ true → m ≤ u
 least-low [] m u e h = absurd (none-some (smallest []) refl e)
 least-low (n ∷ ns) m u e h = low-by n ns m u (smallest ns) (λ k is later. least-low ns k u is later) (none-has ns u) e (or_cases (n == u) (has ns u) h)

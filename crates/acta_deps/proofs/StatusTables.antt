@@ -1,4 +1,4 @@
--- A table of statuses in which one was set.
+-- A table of statuses after one was set.
 use Rattle.std.proofs.Common.{◌≡◌, zero, suc, refl, arith, [], ◌∷◌, sym, ◌∙◌, ℕ, ◌<◌, List, length, get_or, slice_set, eq-eqb, inl, inr}
 use Rattle.std.proofs.lemmas.Bool.{ne_eqb, cases_eq}
 use Rattle.std.proofs.lemmas.Option.{unwrap_or-slice_get}
@@ -18,12 +18,12 @@ at_set xs t s h u =
 pub status_set : (xs : List Status) (t : ℕ) (s : Status) → t < length xs → status_listed (slice_set xs t s) ≡ with_status (status_listed xs) t s
 status_set xs t s h = λ i u. at_set xs t s h u i
 
--- the one in front stays where another is set
+-- the first entry is unchanged when another is set
 pub front_kept : (xs : List Status) (t : ℕ) (s : Status) → 0 < t → status_listed (slice_set xs t s) 0 ≡ status_listed xs 0
 front_kept [] t s h = refl
 front_kept (x ∷ xs) zero s h = absurd (omega arith)
 front_kept (x ∷ xs) (suc t) s h = refl
 
--- a table with the same entries shows the same
+-- tables with equal entries have the same abstraction
 pub same_listed : (xs ys : List Status) → ((t : ℕ) → get_or xs t NotBegun ≡ get_or ys t NotBegun) → status_listed xs ≡ status_listed ys
 same_listed xs ys same = λ i t. (unwrap_or-slice_get xs t NotBegun ∙ same t ∙ sym (unwrap_or-slice_get ys t NotBegun)) i

@@ -1,4 +1,4 @@
--- Walking from a transaction's last edge to the one before it, and so on: what lies between does not count.
+-- Walking the edges of a transaction from the last to the first: the edges between do not count.
 use Rattle.std.proofs.Common.{◌≡◌, ℕ, zero, suc, ◌+◌, ◌-◌, ◌<◌, ◌≤◌, Bool, true, false, ◌==◌, ◌||◌, List, [], ◌∷◌, ◌++◌, length, take, map, get_or, Option, Some, None, refl, sym, ap, ◌∙◌, arith, if◌then◌else◌, add-one, filter, min, append-nil}
 use Rattle.std.specs.List.{position_from, list_any}
 use Rattle.std.specs.Option.{option_or, option_map_or}
@@ -21,7 +21,7 @@ blank = record { kind = Cd; j = record { 0 = 0 }; i = record { 0 = 0 } }
 one_more : (edges : List Edge) (n : ℕ) → n < length edges → take (suc n) edges ≡ take n edges ++ get_or edges n blank ∷ []
 one_more edges n h = ap (λ m. take m edges) (sym (add-one n)) ∙ take_more edges n blank h
 
--- one that passes has the key, so one with another key does not pass
+-- an edge that passes has the key, so an edge with another key does not pass
 fails-by : (pass : Edge → Bool) (key : Edge → ℕ) (t : ℕ) (e : Edge) → (pass e ≡ true → key e ≡ t) → (key e == t) ≡ false → (b : Bool) → pass e ≡ b → pass e ≡ false
 fails-by pass key t e needs other true is = absurd (true≢false (sym (eq-eqb (key e) t (needs is)) ∙ other))
 fails-by pass key t e needs other false is = is
@@ -38,7 +38,7 @@ skipped-by F pass key t drops needs edges n h false is before =
     let other : (key e == t) ≡ false = ap (λ k. k == t) (sym (get_or-map key edges n blank 0 h)) ∙ is in
     ap (λ (xs : List Edge). F xs) (one_more edges n h) ∙ drops (take n edges) e (fails-by pass key t e (needs e) other (pass e) refl) ∙ before
 
--- what the edges behind the last one of t add nothing to is the same without them
+-- the edges after the last one of t add nothing
 pub skipped : {X : Type 0} (F : List Edge → X) (pass : Edge → Bool) (key : Edge → ℕ) (t : ℕ)
     → ((xs : List Edge) (e : Edge) → pass e ≡ false → F (xs ++ e ∷ []) ≡ F xs)
     → ((e : Edge) → pass e ≡ true → key e ≡ t)
@@ -57,7 +57,7 @@ skipped_all F pass key t drops needs edges =
     ∙ sym (skipped F pass key t drops needs edges (length edges) (omega arith))
     ∙ ap (λ (xs : List Edge). F xs) (take_all (length edges) edges (omega arith))
 
--- the edges up to one of t: those up to the one before it, and this one
+-- the edges up to one of t: those up to the previous one of t, and this one
 pub stepped : {X : Type 0} (F : List Edge → X) (pass : Edge → Bool) (key : Edge → ℕ) (t : ℕ)
     → ((xs : List Edge) (e : Edge) → pass e ≡ false → F (xs ++ e ∷ []) ≡ F xs)
     → ((e : Edge) → pass e ≡ true → key e ≡ t)
@@ -89,7 +89,7 @@ or_kept None first true n = refl
 or_kept None first false n = refl
 or_kept (Some x) first b n = refl
 
--- a place that is a last one is within the list, and there t stands
+-- a last place is within the list, and t is there
 pub walk_within : (ps : List ℕ) (t n place : ℕ) → place ≡ latest ps t n → place ≤ n
 walk_within ps t n place is = let h : latest ps t n ≤ n = latest_le ps t n in omega arith
 

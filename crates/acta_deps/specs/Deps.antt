@@ -1,4 +1,4 @@
--- What a table of dependencies shows: the statuses of the transactions, and the edges in force.
+-- The abstract state of a table of dependencies: the statuses of the transactions, and the edges in force.
 use Rattle.std.specs.Prelude.{ℕ, List, slice_get, unwrap_or}
 use Rattle.acta_table.specs.declared.dep.Edge.{Edge}
 use Rattle.acta_table.specs.declared.answer.Status.{Status}
@@ -9,7 +9,7 @@ pub record DepState : Type 0 where
   pub statuses : List Status
   pub edges : List Edge
 
--- the status of a transaction in such a list; one past its end has not begun
+-- the status of a transaction in a list; a transaction past its end has not begun
 abbrev pub status_listed : List Status → ℕ → Status
 status_listed statuses t = unwrap_or (slice_get statuses t) NotBegun
 

@@ -1,9 +1,9 @@
--- How transactions stand.
+-- Predicates on the statuses of transactions.
 use Rattle.std.specs.Prelude.{ℕ, Bool, true, false, ◌||◌, ◌==◌, if◌then◌else◌}
 use Rattle.acta_table.specs.declared.answer.Status.{Status}
 use Rattle.acta_table.specs.declared.answer.Status.TheVariants.{NotBegun, InProgress, Committed, Aborted, Joined}
 
--- begun, also where it has ended since
+-- begun, whether or not it has ended since
 abbrev pub has_begun : Status → Bool
 has_begun NotBegun = false
 has_begun _ = true
@@ -18,13 +18,13 @@ abbrev pub is_in_progress : Status → Bool
 is_in_progress InProgress = true
 is_in_progress _ = false
 
--- committed, aborted or joined to another: ended in any way
+-- ended in any way: committed, aborted or joined to another
 abbrev pub has_ended : Status → Bool
 has_ended NotBegun = false
 has_ended InProgress = false
 has_ended _ = true
 
--- each of the three ways to end
+-- the three ways to end
 abbrev pub has_committed : Status → Bool
 has_committed Committed = true
 has_committed _ = false
@@ -37,7 +37,7 @@ abbrev pub has_joined : Status → Bool
 has_joined Joined = true
 has_joined _ = false
 
--- committed or aborted; one that joined another is neither
+-- committed or aborted; a transaction that joined another is neither
 abbrev pub is_decided : Status → Bool
 is_decided s = has_committed s || has_aborted s
 
@@ -47,6 +47,6 @@ may_end NotBegun = true
 may_end InProgress = true
 may_end _ = false
 
--- the statuses, with t's changed
+-- the statuses, with the status of t changed
 abbrev pub with_status : (ℕ → Status) → ℕ → Status → ℕ → Status
 with_status status t s u = if u == t then s else status u

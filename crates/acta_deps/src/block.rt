@@ -1,4 +1,4 @@
-//! What stands in the way of an event by the edges in force, and why.
+//! Why the edges in force block an event.
 
 ghost use Rattle.std.specs.Prelude.{◌≡◌, ◌&&◌, ◌==◌, option_map, IfSome};
 ghost use Rattle.acta_table.specs.declared.answer.Status.{Status as StatusModel};
@@ -17,42 +17,42 @@ use crate::rules::or_here;
 use acta_table::{Edge, Missing, Refusal, Rule, Status, TxnId};
 use std::alloc::Allocator;
 
-/// An edge in force, with its number among them, from 1 (at most 16,384 are in force).
+/// An edge in force, with its number among them, from 1.
 #[derive(Clone, Copy, PartialEq, Eq, Debug)]
 pub struct NumberedEdge {
     pub number: u32,
     pub edge: Edge,
 }
 
-/// An edge that blocks an event by one of the rules on dependencies, but for the clash, and how its transactions stand.
+/// An edge that blocks an event by a dependency rule other than `Clash`, with the statuses of its transactions.
 #[derive(Clone, Copy, PartialEq, Eq, Debug)]
 pub struct BlockingEdge {
     pub rule: Rule,
     pub by: NumberedEdge,
-    /// How the one that depends stands.
+    /// The status of the dependent transaction.
     pub j: Status,
-    /// How the one on which it depends stands.
+    /// The status of the transaction that it depends on.
     pub i: Status,
 }
 
-/// The first edges by which one transaction would owe a commit and an abort, after the event.
+/// The first edges because of which one transaction would owe a commit and an abort after the event.
 #[derive(Clone, Copy, PartialEq, Eq, Debug)]
 pub struct Clash {
     pub commit: NumberedEdge,
     pub abort: NumberedEdge,
 }
 
-/// What stands in the way of an event by the edges in force.
+/// The reason why the edges in force block an event.
 #[derive(Clone, Copy, PartialEq, Eq, Debug)]
 pub enum Block {
-    /// An edge blocks it: the first by which it breaks the rule.
+    /// The first edge by which the event breaks the rule.
     Edge(BlockingEdge),
-    /// A transaction would owe both a commit and an abort: the smallest that would.
+    /// The smallest transaction that would owe both a commit and an abort.
     Clash(Clash),
 }
 
 impl Block {
-    /// The rule that the event breaks by it, with the number that the rule names.
+    /// The rule that the event breaks, with the number that the rule names.
     pub fn refusal(self) -> Refusal
         ensures { result ≡ refusal_of self }
     {
@@ -64,7 +64,7 @@ impl Block {
 }
 
 impl<A: Allocator> Deps<A> {
-    // The edge of this number, where there is one.
+    // The edge with this number, if there is one.
     fn numbered(&self, number: u32) -> Option<NumberedEdge>
         ensures edge { option_map (λ one. one.edge) result ≡ item_at self.now.edges number }
         ensures number { IfSome result (λ one. one.number ≡ number) }
@@ -74,7 +74,7 @@ impl<A: Allocator> Deps<A> {
         Some(NumberedEdge { number, edge })
     }
 
-    // The edge that breaks the rule, where there is one of this number.
+    // The edge with this number, if there is one, as the edge that breaks the rule.
     fn blocking_edge(&self, rule: Rule, number: u32) -> Option<BlockingEdge>
         ensures edge { option_map (λ blocking_edge. blocking_edge.by.edge) result ≡ item_at self.now.edges number }
         ensures named { IfSome result (λ blocking_edge. (blocking_edge.rule ≡ rule) × (blocking_edge.by.number ≡ number)) }
@@ -85,14 +85,14 @@ impl<A: Allocator> Deps<A> {
         Some(BlockingEdge { rule, by, j, i })
     }
 
-    // Whether the transaction of this number would owe the event by the edge after the change.
+    // Whether transaction `number` would owe the event because of the edge after the change.
     fn owes_through(&self, change: Change, number: u32, missing: Missing, edge: &Edge) -> bool
         ensures { result ≡ owes missing (status_after self.now change) number edge.now }
     {
         u32::from(edge.j.0) == number && self.owes_by(change, edge.j, missing, edge)
     }
 
-    // The number of the first edge by which the transaction of this number would owe the event after the change.
+    // The number of the first edge because of which transaction `number` would owe the event after the change.
     fn first_owed(&self, change: Change, number: u32, missing: Missing) -> Option<u32>
         ensures { result ≡ first_number (owes missing (status_after self.now change) number) self.now.edges }
     {
@@ -108,7 +108,7 @@ impl<A: Allocator> Deps<A> {
         first
     }
 
-    // The first edge by which the transaction of this number would owe the event after the change.
+    // The first edge because of which transaction `number` would owe the event after the change.
     fn first_debt(&self, change: Change, number: u32, missing: Missing) -> Option<NumberedEdge>
         ensures number { option_map (λ one. one.number) result ≡ first_number (owes missing (status_after self.now change) number) self.now.edges }
         ensures edge { IfSome result (λ one. item_at self.now.edges one.number ≡ Some one.edge) }
@@ -118,7 +118,7 @@ impl<A: Allocator> Deps<A> {
         self.numbered(first)
     }
 
-    // The first edges by which one would owe both events after the change, the smallest that would.
+    // For the smallest transaction that would owe both events after the change: the first edges of its two debts.
     fn clash_edges(&self, change: Change) -> Option<Clash>
         ensures txn { option_map (λ clash. clash.commit.edge.j.0) result ≡ clashing (status_after self.now change) self.now.edges }
         ensures so { IfSome result (IsClash (status_after self.now change) self.now.edges) }
@@ -129,8 +129,8 @@ impl<A: Allocator> Deps<A> {
         Some(Clash { commit, abort })
     }
 
-    /// What stands in the way of `t`'s coming to stand so: of its start, for `InProgress`, its commit, abort or joining
-    /// another. `None` where nothing does, as for `may_start`, `may_commit`, `may_abort` and `may_join`.
+    /// Returns what blocks `txn` from getting this status: from starting (`InProgress`), committing, aborting or
+    /// joining another. `None` if nothing does. Agrees with `may_start`, `may_commit`, `may_abort` and `may_join`.
     pub fn block(&self, txn: TxnId, status: Status) -> Option<Block>
         ensures refusal { option_map refusal_of result ≡ refusal_to (status_of self.now) self.now.edges txn.0 status }
         ensures so { IfSome result (IsBlock (status_of self.now) (with_status (status_of self.now) txn.0 status) self.now.edges) }

@@ -9,7 +9,7 @@ use crate::deps::Deps;
 use acta_table::{Dep, Edge, Status, TxnId};
 use std::alloc::Allocator;
 
-/// How one edge can bar an event of a transaction: a test of the edge and of how its two stand.
+/// The ways in which one edge can block an event. Each is a test of the edge and the statuses of its transactions.
 #[derive(Clone, Copy)]
 pub(crate) enum BlockKind {
     AwaitsBegin,

@@ -20,7 +20,7 @@ fn missing_if(test: bool, missing: Missing) -> Option<Missing>
     if test { Some(missing) } else { None }
 }
 
-/// What `j` owes by an edge of this kind, from how `i` and `j` stand.
+/// The debt of `j` by an edge of this kind, from the statuses of `i` and `j`.
 pub(crate) fn debt_by(kind: Dep, i: Status, j: Status) -> Option<Missing>
     ensures { result ≡ debt_by kind i j }
 {
@@ -50,7 +50,7 @@ pub(crate) fn is_abort(missing: Option<Missing>) -> bool
 }
 
 impl<A: Allocator> Deps<A> {
-    /// What is owed by the edge.
+    /// The debt of the edge.
     pub(crate) fn debt(&self, e: &Edge) -> Option<Missing>
         ensures { result ≡ debt_of (status_of self.now) e.now }
     {

@@ -1,5 +1,6 @@
-ghost use Rattle.std.specs.Prelude.{◌≡◌, true, ◌<◌, ◌≤◌, ◌+◌, ◌-◌, [], None, Some, IfOk, IfSome, OnOk, OnErr, length, take, map, false, ℕ};
-ghost use Rattle.std.specs.List.{All};
+ghost use Rattle.std.specs.Prelude.{◌≡◌, true, Bool, ◌<◌, ◌≤◌, ◌+◌, ◌-◌, [], None, Some, IfOk, IfSome, OnOk, OnErr, length, take, map, false, ℕ};
+ghost use Rattle.std.specs.List.{All, list_any};
+ghost use Rattle.acta_table.specs.declared.dep.Edge.{Edge};
 ghost use Rattle.acta_table.specs.Edges.{formed, is_among};
 ghost use Rattle.acta_table.specs.WellFormed.{is_bad_number};
 ghost use Rattle.acta_deps.specs.Deps.{status_of};
@@ -9,17 +10,19 @@ ghost use Rattle.acta_deps.specs.Dependencies.{start_refusal, commit_refusal, ab
 
 use crate::edge_list::EdgeList;
 use crate::lacking::is_named_before;
+use crate::owing::{self, Notes};
 use crate::places::Places;
 use acta_table::{Edge, LAST_TXN, MOST_EDGES, Status, TABLE_SIZE, TxnId, lengthen};
 use std::alloc::{AllocError, Allocator};
 
-/// How the transactions stand, and the edges in force among them. Contracts see the list of statuses by number, and
-/// that of edges in order of forming.
+/// The statuses of transactions, and the edges in force among them. Contracts see the list of statuses by transaction
+/// number, and the list of edges in order of forming.
 #[derive(Drop)]
 pub struct Deps<A: Allocator> {
-    // By the number of the transaction. One past the end has not begun.
+    // Indexed by transaction number. A transaction past the end has not begun.
     statuses: Vec<Status, A>,
     edges: EdgeList<A>,
+    owing: Notes<A>,
 }
 
 impl<A: Allocator> std::marker::Model for Deps<A> {
@@ -41,7 +44,7 @@ impl<A: Allocator> std::marker::Model for Deps<A> {
 }
 
 impl<A: Allocator> Deps<A> {
-    /// How a transaction stands. A number that no transaction can have has not begun.
+    /// The status of a transaction. A number that no transaction can have has not begun.
     pub fn status(&self, t: TxnId) -> Status
         ensures status { result ≡ status_of self.now t.0 }
         ensures nobody { is_bad_number t.0 ≡ true → result ≡ Status.NotBegun }
@@ -52,7 +55,7 @@ impl<A: Allocator> Deps<A> {
             .unwrap_or(Status::NotBegun)
     }
 
-    /// The edges in force, in order of forming: at most 16,384. The first has the number 1.
+    /// The edges in force, in order of forming: at most 16,384, numbered from 1.
     pub fn edges(&self) -> &[Edge]
         ensures edges { result.now ≡ self.now.edges }
         ensures few { length self.now.edges ≤ MOST_EDGES }
@@ -60,8 +63,8 @@ impl<A: Allocator> Deps<A> {
         self.edges.as_slice()
     }
 
-    /// What holds of each table, for laws that need it: a number that no transaction can have has not begun, and no
-    /// transaction owes both a commit and an abort. Changes nothing.
+    /// States what holds of every table: a number that no transaction can have has not begun, and no transaction owes
+    /// both a commit and an abort. Changes nothing.
     pub fn lemma_invariant(&self)
         ensures nobody { (t : ℕ) → is_bad_number t ≡ true → status_of self.now t ≡ Status.NotBegun }
         ensures clear { (t : ℕ) → owes_both (status_of self.now) self.now.edges t ≡ false }
@@ -69,7 +72,7 @@ impl<A: Allocator> Deps<A> {
         let _ = &self.statuses;
     }
 
-    /// How far to look for transactions: none of this number or above has begun.
+    /// A bound on transaction numbers: none of this number or above has begun.
     pub fn known_txns(&self) -> usize
         ensures status { (t : ℕ) → result ≤ t → status_of self.now t ≡ Status.NotBegun }
         ensures few { result ≤ TABLE_SIZE }
@@ -77,7 +80,7 @@ impl<A: Allocator> Deps<A> {
         self.statuses.len()
     }
 
-    /// Makes room for the status of `t`, a number up to 16,383. Nobody's status changes.
+    /// Makes room for the status of `t`, a number up to 16,383. No status changes.
     pub fn make_room(&mut self, t: TxnId) -> Result<(), AllocError>
         requires { t.0 ≤ LAST_TXN }
         ensures room { OnOk result (t.0 < length self.new.statuses) }
@@ -87,7 +90,7 @@ impl<A: Allocator> Deps<A> {
         lengthen(&mut self.statuses, t.0 as usize + 1, Status::NotBegun)
     }
 
-    // Sets the status of `t`, after which nobody owes both a commit and an abort.
+    // Sets the status of `t`. Afterwards no transaction may owe both a commit and an abort.
     fn set(&mut self, t: TxnId, status: Status)
         requires low { 0 < t.0 }
         requires room { t.0 < length self.old.statuses }
@@ -96,9 +99,10 @@ impl<A: Allocator> Deps<A> {
         ensures edges { self.new.edges ≡ self.old.edges }
     {
         self.statuses[t.0 as usize] = status;
+        owing::note(&mut self.owing, self.statuses.as_slice(), &self.edges, t);
     }
 
-    /// `t`, a number from 1 to 16,383 that has not begun, begins. Ask `may_start` first, and then for room, by `make_room`.
+    /// Begins `t`, a number from 1 to 16,383 that has not begun. Call `may_start` first, then `make_room`.
     #[tactic(auto, using(crate::proofs::Clear::start_clear))]
     pub fn started(&mut self, t: TxnId)
         requires low { 0 < t.0 }
@@ -111,7 +115,7 @@ impl<A: Allocator> Deps<A> {
         self.set(t, Status::InProgress);
     }
 
-    /// `t`, a number from 1 to 16,383 that is in progress, commits. Ask `may_commit` first.
+    /// Commits `t`, which is in progress. Call `may_commit` first.
     #[tactic(auto, using(crate::proofs::Clear::commit_clear))]
     pub fn committed(&mut self, t: TxnId)
         requires low { 0 < t.0 }
@@ -124,7 +128,7 @@ impl<A: Allocator> Deps<A> {
         self.set(t, Status::Committed);
     }
 
-    /// `t`, a number from 1 to 16,383 that is in progress, aborts. Ask `may_abort` first.
+    /// Aborts `t`, which is in progress. Call `may_abort` first.
     #[tactic(auto, using(crate::proofs::Clear::abort_clear))]
     pub fn aborted(&mut self, t: TxnId)
         requires low { 0 < t.0 }
@@ -137,7 +141,7 @@ impl<A: Allocator> Deps<A> {
         self.set(t, Status::Aborted);
     }
 
-    /// `t`, a number from 1 to 16,383 that is in progress, joins another, and so neither commits nor aborts. Ask
+    /// Marks `t`, which is in progress, as joined to another transaction: it neither commits nor aborts. Call
     /// `may_join` first.
     #[tactic(auto, using(crate::proofs::Clear::join_clear))]
     pub fn joined(&mut self, t: TxnId)
@@ -159,13 +163,13 @@ impl<A: Allocator> Deps<A> {
         self.edges.has(edge)
     }
 
-    /// How many edges `form` would form of these: those not yet in force, each counted once. Takes no memory. Where they
-    /// come ascending by `i`, an edge is compared with those of the same `i` alone.
+    /// Returns how many of these edges `form` would form: those not yet in force, each counted once. Allocates nothing.
+    /// Fast if they are sorted by `i`: then an edge is compared only with those of the same `i`.
     pub fn lacks(&self, more: &[Edge]) -> usize
         ensures { length (formed self.now.edges more.now) ≡ length self.now.edges + result }
     {
         let mut count = 0;
-        // The highest `i` so far, and the first place that has it since none below did.
+        // The highest `i` so far, and the first place that has it: every `i` before that is lower.
         let (mut highest, mut start) = (TxnId(0), 0);
         for (k, edge) in more.iter().enumerate() {
             if !self.has(edge) && !is_named_before(edge, &more[..k], start, highest) {
@@ -179,21 +183,29 @@ impl<A: Allocator> Deps<A> {
         count
     }
 
-    /// The transactions that depend, by the number of the edge.
+    /// An edge by which `u` may owe an event, if one is noted.
+    pub(crate) fn noted(&self, u: TxnId) -> Option<&Edge>
+        ensures { IfSome result (λ e. (test : Edge → Bool) → test e.now ≡ true → list_any test self.now.edges ≡ true) }
+    {
+        let number = *self.owing.get(u.0 as usize)?;
+        self.edges().get((number as usize).checked_sub(1)?)
+    }
+
+    /// The dependent transactions, by edge number.
     pub(crate) fn by_j(&self) -> &Places<A>
         ensures { result.now ≡ map (λ e. e.j.0) self.now.edges }
     {
         self.edges.by_j()
     }
 
-    /// The transactions on which they depend, by the number of the edge.
+    /// The transactions depended on, by edge number.
     pub(crate) fn by_i(&self) -> &Places<A>
         ensures { result.now ≡ map (λ e. e.i.0) self.now.edges }
     {
         self.edges.by_i()
     }
 
-    /// The last `n` edges are in force no longer, of at least as many.
+    /// Removes the last `n` edges, which must be in force.
     pub fn take_back(&mut self, n: usize)
         requires { n ≤ length self.old.edges }
         ensures statuses { self.new.statuses ≡ self.old.statuses }
@@ -205,13 +217,14 @@ impl<A: Allocator> Deps<A> {
 }
 
 impl<A: Allocator + Copy> Deps<A> {
-    /// No transaction has begun, and no edge is in force. Takes no memory.
+    /// The empty table: no transaction has begun, and no edge is in force. Allocates nothing.
     pub fn new(alloc: A) -> Deps<A>
         ensures { result ≡ record { statuses = []; edges = [] } }
     {
         Deps {
             statuses: Vec::new(alloc),
             edges: EdgeList::new(alloc),
+            owing: Notes::new(alloc),
         }
     }
 
@@ -220,9 +233,9 @@ impl<A: Allocator + Copy> Deps<A> {
         self.edges.allocator()
     }
 
-    /// Forms those of these edges, by which nothing is owed yet, that are not in force, in order, each once, and
-    /// answers how many they are. Those in force before keep their numbers. At most 16,384 are in force afterwards. On
-    /// `Err` none is formed.
+    /// Forms those of these edges that are not yet in force, in order, each once, and returns how many. No edge may
+    /// have a debt yet. At most 16,384 edges are in force afterwards, and earlier ones keep their numbers. On `Err`
+    /// none is formed.
     #[tactic(auto, using(crate::proofs::FormedEdges::take_formed, crate::proofs::FormedEdges::le_formed))]
     pub fn form(&mut self, more: &[Edge]) -> Result<usize, AllocError>
         requires fits { length (formed self.old.edges more.now) ≤ MOST_EDGES }
@@ -235,17 +248,19 @@ impl<A: Allocator + Copy> Deps<A> {
         ensures err { OnErr result (self.new ≡ self.old) }
     {
         let before = self.edges().len();
+        owing::make_room(&mut self.owing, more)?;
         self.edges.form_all(more)?;
         Ok(self.edges.as_slice().len() - before)
     }
 
-    /// The same statuses and edges, in memory of their own.
+    /// Returns a copy of the table.
     pub fn copy(&self) -> Result<Deps<A>, AllocError>
         ensures { IfOk result (λ deps. deps ≡ self.now) }
     {
         Ok(Deps {
             statuses: Vec::from_slice(self.allocator(), &self.statuses)?,
             edges: self.edges.copy()?,
+            owing: Vec::from_slice(self.allocator(), &self.owing)?,
         })
     }
 }

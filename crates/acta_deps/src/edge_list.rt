@@ -11,7 +11,7 @@ use std::hash::{BuildHasherDefault, FoldHasher};
 // Edges in order of forming, each once.
 type Formed<A> = IndexSet<Edge, BuildHasherDefault<FoldHasher>, A>;
 
-/// At most 16,384 edges in order of forming, with the places of each transaction among them. Contracts see the list.
+/// At most 16,384 edges in order of forming, each once, indexed by either transaction. Contracts see the list.
 #[derive(Drop)]
 pub(crate) struct EdgeList<A: Allocator> {
     edges: Formed<A>,
@@ -35,7 +35,7 @@ impl<A: Allocator> std::marker::Model for EdgeList<A> {
     } };
 }
 
-// Puts the edge behind the others, unless it is among them. On `Err` it is not.
+// Appends the edge unless it is in the list. On `Err` the set is unchanged.
 fn insert<A: Allocator>(edges: &mut Formed<A>, edge: &Edge) -> Result<(), AllocError>
     ensures formed { OnOk result (edges.new.keys ≡ with_edge edges.old.keys edge.now) }
     ensures err { OnErr result (edges.new.keys ≡ edges.old.keys) }
@@ -46,7 +46,7 @@ fn insert<A: Allocator>(edges: &mut Formed<A>, edge: &Edge) -> Result<(), AllocE
     }
 }
 
-// Puts the two of the edge behind the others. On `Err` neither is.
+// Appends the edge's transactions to both indexes. On `Err` both are unchanged.
 fn note<A: Allocator>(
     by_j: &mut Places<A>,
     by_i: &mut Places<A>,
@@ -70,7 +70,7 @@ fn note<A: Allocator>(
 }
 
 impl<A: Allocator> EdgeList<A> {
-    /// The edges. The first has the number 1.
+    /// The edges, numbered from 1.
     pub(crate) fn as_slice(&self) -> &[Edge]
         ensures edges { result.now ≡ self.now }
         ensures few { length self.now ≤ MOST_EDGES }
@@ -78,14 +78,14 @@ impl<A: Allocator> EdgeList<A> {
         self.edges.as_slice()
     }
 
-    /// The transactions that depend, by place: the `j` of each edge.
+    /// The dependent transactions: the `j` of each edge.
     pub(crate) fn by_j(&self) -> &Places<A>
         ensures { result.now ≡ map (λ e. e.j.0) self.now }
     {
         &self.by_j
     }
 
-    /// The transactions on which they depend, by place: the `i` of each edge.
+    /// The transactions depended on: the `i` of each edge.
     pub(crate) fn by_i(&self) -> &Places<A>
         ensures { result.now ≡ map (λ e. e.i.0) self.now }
     {
@@ -99,7 +99,7 @@ impl<A: Allocator> EdgeList<A> {
         self.edges.contains(edge)
     }
 
-    // Puts the edge behind the others, unless it is among them. On `Err` it is not.
+    // Appends the edge unless it is in the list. On `Err` the list is unchanged.
     fn form(&mut self, edge: &Edge) -> Result<(), AllocError>
         requires j { edge.now.j.0 ≤ LAST_TXN }
         requires i { edge.now.i.0 ≤ LAST_TXN }
@@ -119,7 +119,7 @@ impl<A: Allocator> EdgeList<A> {
         Ok(())
     }
 
-    /// Keeps so many edges, those in front, and takes the others away.
+    /// Keeps the first `n` edges and removes the others.
     pub(crate) fn truncate(&mut self, count: usize)
         ensures { self.new ≡ take count self.old }
     {
@@ -128,7 +128,7 @@ impl<A: Allocator> EdgeList<A> {
         self.by_i.truncate(count);
     }
 
-    // Puts the edges behind the others, each once. `Err` if memory runs out, with some of them put.
+    // Appends the edges, each once. On `Err` some of them may have been appended.
     fn form_each(&mut self, more: &[Edge]) -> Result<(), AllocError>
         requires known { All (λ e. (e.j.0 ≤ LAST_TXN) × (e.i.0 ≤ LAST_TXN)) more.now }
         requires fits { length (formed self.old more.now) ≤ MOST_EDGES }
@@ -141,7 +141,7 @@ impl<A: Allocator> EdgeList<A> {
         Ok(())
     }
 
-    /// Puts the edges behind the others, each once. On `Err` none is put.
+    /// Appends the edges, each once. On `Err` none is appended.
     pub(crate) fn form_all(&mut self, more: &[Edge]) -> Result<(), AllocError>
         requires known { All (λ e. (e.j.0 ≤ LAST_TXN) × (e.i.0 ≤ LAST_TXN)) more.now }
         requires fits { length (formed self.old more.now) ≤ MOST_EDGES }
@@ -159,7 +159,7 @@ impl<A: Allocator> EdgeList<A> {
     }
 }
 
-// The same edges, in memory of their own.
+// Returns a copy of the edges.
 fn copy_of<A: Allocator + Copy>(edges: &Formed<A>) -> Result<Formed<A>, AllocError>
     ensures { IfOk result (λ copy. copy.keys ≡ edges.now.keys) }
 {
@@ -168,7 +168,7 @@ fn copy_of<A: Allocator + Copy>(edges: &Formed<A>) -> Result<Formed<A>, AllocErr
 }
 
 impl<A: Allocator + Copy> EdgeList<A> {
-    /// No edge. Takes no memory.
+    /// The empty list. Allocates nothing.
     pub(crate) fn new(alloc: A) -> EdgeList<A>
         ensures { result ≡ [] }
     {
@@ -184,7 +184,7 @@ impl<A: Allocator + Copy> EdgeList<A> {
         *self.edges.allocator()
     }
 
-    /// The same edges, in memory of their own.
+    /// Returns a copy of the list.
     pub(crate) fn copy(&self) -> Result<EdgeList<A>, AllocError>
         ensures { IfOk result (λ edges. edges ≡ self.now) }
     {

@@ -4,8 +4,8 @@ ghost use Rattle.acta_table.specs.Edges.{is_among};
 
 use acta_table::{Edge, TxnId};
 
-/// Whether the edge is among those of `before`. None of these has an `i` above `highest`, and only those from `start` on
-/// may have it: so where edges come ascending by `i`, few are looked at.
+/// Whether the edge is in `before`. No edge there has an `i` above `highest`, and those before `start` have a lower
+/// one. So few are compared if edges are sorted by `i`.
 pub(crate) fn is_named_before(edge: &Edge, before: &[Edge], start: usize, highest: TxnId) -> bool
     requires start { start ≤ length before.now }
     requires lower { All (λ e. e.i.0 < highest.0) (take start before.now) }

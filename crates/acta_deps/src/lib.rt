@@ -1,9 +1,8 @@
-//! Who must wait for whom. `Deps` holds how each transaction stands and the dependencies in force
-//! among them, as edges in order of forming. It says which rule an event of a transaction would
-//! break, and what transactions owe: an event that one of them has yet to do, since another has
-//! committed or aborted. An edge speaks of one kind and two statuses, so each rule but the last is
-//! a test of single edges, and the first edge that breaks it is named. The last rule is that no
-//! transaction may come to owe both a commit and an abort.
+//! Dependencies between transactions. `Deps` holds the status of each transaction and the edges in force, in order of
+//! forming. It answers which rule an event of a transaction would break, and which events transactions owe because
+//! another has committed or aborted. Every rule but the last tests single edges, by the kind and two statuses, and
+//! names the first edge that breaks it. The last rule, `Clash`, forbids that a transaction comes to owe both a commit
+//! and an abort.
 //!
 //! A call that allocates returns `Err` if memory runs out.
 #![tactic(auto)]
@@ -15,6 +14,7 @@ mod debt;
 mod deps;
 mod edge_list;
 mod lacking;
+mod owing;
 mod places;
 mod rules;
 mod waiting;

@@ -4,8 +4,8 @@ ghost use Rattle.acta_deps.specs.inside.Places.{latest};
 use acta_table::{LAST_TXN, MOST_EDGES, TxnId, lengthen};
 use std::alloc::{AllocError, Allocator};
 
-/// A list of at most 16,384 transactions, of the numbers 0 to 16,383, in which each one's places are linked: from the last
-/// to the one before. A place is counted from 1, and 0 is none. Contracts see the list.
+/// A list of at most 16,384 transactions (numbers 0 to 16,383). The places of each transaction are linked, from the
+/// last to the one before. Places count from 1, and 0 means none. Contracts see the list.
 #[derive(Drop)]
 pub(crate) struct Places<A: Allocator> {
     txns: Vec<u16, A>,
@@ -30,7 +30,7 @@ impl<A: Allocator> std::marker::Model for Places<A> {
     } };
 }
 
-/// Puts the item behind the others, where there is room.
+/// Appends the item to a vector that has room.
 pub(crate) fn put<T: Copy, A: Allocator>(items: &mut Vec<T, A>, item: T)
     requires { length items.old.items < vec_capacity items.old }
     ensures { items.new.items ≡ items.old.items ++ item ∷ [] }
@@ -39,7 +39,7 @@ pub(crate) fn put<T: Copy, A: Allocator>(items: &mut Vec<T, A>, item: T)
 }
 
 impl<A: Allocator> Places<A> {
-    /// How many transactions are in the list.
+    /// The number of transactions in the list.
     pub(crate) fn len(&self) -> usize
         ensures len { result ≡ length self.now }
         ensures few { result ≤ MOST_EDGES }
@@ -54,7 +54,7 @@ impl<A: Allocator> Places<A> {
         self.last_of(u32::from(t.0))
     }
 
-    /// The last place of the transaction of this number, or 0.
+    /// The last place of the transaction with this number, or 0.
     pub(crate) fn last_of(&self, number: u32) -> u16
         ensures { result ≡ latest self.now number (length self.now) }
     {
@@ -64,7 +64,7 @@ impl<A: Allocator> Places<A> {
         }
     }
 
-    /// The place, before this one, at which the same transaction stands last, or 0.
+    /// The closest earlier place with the same transaction, or 0.
     pub(crate) fn before(&self, place: u16) -> u16
         requires place { 0 < place }
         requires within { place ≤ length self.now }
@@ -73,7 +73,7 @@ impl<A: Allocator> Places<A> {
         self.before[place as usize - 1]
     }
 
-    /// Puts the transaction behind the others. On `Err` it is not.
+    /// Appends the transaction. On `Err` the list is unchanged.
     pub(crate) fn push(&mut self, t: TxnId) -> Result<(), AllocError>
         requires known { t.0 ≤ LAST_TXN }
         requires few { length self.old < MOST_EDGES }
@@ -89,7 +89,7 @@ impl<A: Allocator> Places<A> {
         Ok(())
     }
 
-    /// Takes the last one away.
+    /// Removes the last transaction.
     pub(crate) fn pop(&mut self)
         requires { 0 < length self.old }
         ensures { self.new ≡ take (length self.old - 1) self.old }
@@ -101,7 +101,7 @@ impl<A: Allocator> Places<A> {
         self.before.truncate(rest);
     }
 
-    /// Keeps so many, those in front, and takes the others away.
+    /// Keeps the first `n` transactions and removes the others.
     pub(crate) fn truncate(&mut self, count: usize)
         ensures { self.new ≡ take count self.old }
     {
@@ -112,7 +112,7 @@ impl<A: Allocator> Places<A> {
 }
 
 impl<A: Allocator + Copy> Places<A> {
-    /// No transaction. Takes no memory.
+    /// The empty list. Allocates nothing.
     pub(crate) fn new(alloc: A) -> Places<A>
         ensures { result ≡ [] }
     {
@@ -123,7 +123,7 @@ impl<A: Allocator + Copy> Places<A> {
         }
     }
 
-    /// The same list, in memory of its own.
+    /// Returns a copy of the list.
     pub(crate) fn copy(&self) -> Result<Places<A>, AllocError>
         ensures { IfOk result (λ places. places ≡ self.now) }
     {

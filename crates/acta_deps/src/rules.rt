@@ -14,7 +14,7 @@ use crate::places::Places;
 use acta_table::{Refusal, Rule, Status, TxnId};
 use std::alloc::Allocator;
 
-/// The place if the test is true, or else the one that was found after it.
+/// The place if the test is true, otherwise the one that was found at a later place.
 pub(crate) fn or_here(test: bool, place: u16, behind: Option<u32>) -> Option<u32>
     ensures { result ≡ (if test then Some place else behind) }
 {
@@ -22,7 +22,7 @@ pub(crate) fn or_here(test: bool, place: u16, behind: Option<u32>) -> Option<u32
 }
 
 impl<A: Allocator> Deps<A> {
-    // The transactions that edges bar in this way, by the number of the edge.
+    // The transactions that edges can block in this way, by edge number.
     fn parties(&self, block_kind: BlockKind) -> &Places<A>
         ensures { result.now ≡ map (party block_kind) self.now.edges }
     {
@@ -51,7 +51,7 @@ impl<A: Allocator> Deps<A> {
         first
     }
 
-    // The rule, where an edge blocks `t` in this way, with the first such edge.
+    // The rule, if an edge blocks `t` in this way, with the first such edge.
     fn broken(&self, rule: Rule, block_kind: BlockKind, t: TxnId) -> Option<Refusal>
         ensures { result ≡ broken_by rule (first_number (blocks block_kind (status_of self.now) t.0) self.now.edges) }
     {
@@ -62,7 +62,7 @@ impl<A: Allocator> Deps<A> {
     }
 }
 
-// The first edges that bar a commit of the one on which they depend, by rule.
+// For each rule, the first edge whose dependent keeps `t` from committing.
 #[derive(Clone, Copy)]
 struct Later {
     order: Option<u32>,
@@ -70,7 +70,7 @@ struct Later {
     unpayable: Option<u32>,
 }
 
-// The rule, where there is such a number.
+// The rule, if there is a number for it.
 fn broken_by(rule: Rule, number: Option<u32>) -> Option<Refusal>
     ensures { result ≡ broken_by rule number }
 {
@@ -81,7 +81,7 @@ fn broken_by(rule: Rule, number: Option<u32>) -> Option<Refusal>
 }
 
 impl<A: Allocator> Deps<A> {
-    // The first edges by which others bar the commit of `t`.
+    // For each rule, the first edge whose dependent keeps `t` from committing.
     fn later(&self, t: TxnId) -> Later
         ensures order { result.order ≡ first_number (blocks BlockKind.CommittedFirst (status_of self.now) t.0) self.now.edges }
         ensures begun { result.begun ≡ first_number (blocks BlockKind.BeganFirst (status_of self.now) t.0) self.now.edges }
@@ -115,7 +115,7 @@ impl<A: Allocator> Deps<A> {
         }
     }
 
-    // The lowest rule that the commit of `t` would break by an edge on it.
+    // The lowest rule that the commit of `t` would break by an edge that depends on `t`.
     #[tactic(auto, unfolding(crate::specs::Dependencies::commit_order, crate::specs::Dependencies::weak_begin, crate::specs::Dependencies::unpayable_commit))]
     fn broken_by_later(&self, t: TxnId) -> Option<Refusal>
         ensures { result ≡ option_or (option_or (commit_order (status_of self.now) self.now.edges t.0) (weak_begin (status_of self.now) self.now.edges t.0)) (unpayable_commit (status_of self.now) self.now.edges t.0) }
@@ -129,8 +129,8 @@ impl<A: Allocator> Deps<A> {
 }
 
 impl<A: Allocator> Deps<A> {
-    /// The lowest rule that the start of `t` would break, with the smallest number of an edge that breaks it, and for
-    /// `Clash` the smallest transaction. `None` if it breaks none.
+    /// Returns the lowest rule that the start of `t` would break, with the number of the first edge that breaks it, or
+    /// for `Clash` the smallest transaction. `None` if it breaks none.
     #[tactic(auto, unfolding(crate::specs::Dependencies::start_refusal, crate::specs::Dependencies::begin_dep, crate::specs::Dependencies::serial_dep, crate::specs::Dependencies::begin_on_commit, crate::specs::Dependencies::begin_on_abort))]
     pub fn may_start(&self, t: TxnId) -> Option<Refusal>
         ensures { result ≡ start_refusal (status_of self.now) self.now.edges t.0 }
@@ -146,8 +146,8 @@ impl<A: Allocator> Deps<A> {
             .or_else(|| self.clash(change))
     }
 
-    /// The lowest rule that the commit of `t` would break, with the smallest number of an edge that breaks it, and for
-    /// `Clash` the smallest transaction. `None` if it breaks none.
+    /// Returns the lowest rule that the commit of `t` would break, with the number of the first edge that breaks it, or
+    /// for `Clash` the smallest transaction. `None` if it breaks none.
     #[tactic(auto, unfolding(crate::specs::Dependencies::commit_refusal, crate::specs::Dependencies::termination_dep, crate::specs::Dependencies::owing_abort), using(crate::proofs::Walks::or_assoc))]
     pub fn may_commit(&self, t: TxnId) -> Option<Refusal>
         ensures { result ≡ commit_refusal (status_of self.now) self.now.edges t.0 }
@@ -162,8 +162,8 @@ impl<A: Allocator> Deps<A> {
             .or_else(|| self.clash(change))
     }
 
-    /// The lowest rule that the abort of `t` would break, with the smallest number of an edge that breaks it, and for
-    /// `Clash` the smallest transaction. `None` if it breaks none.
+    /// Returns the lowest rule that the abort of `t` would break, with the number of the first edge that breaks it, or
+    /// for `Clash` the smallest transaction. `None` if it breaks none.
     #[tactic(auto, unfolding(crate::specs::Dependencies::abort_refusal, crate::specs::Dependencies::termination_dep, crate::specs::Dependencies::owing_commit, crate::specs::Dependencies::unpayable_abort))]
     pub fn may_abort(&self, t: TxnId) -> Option<Refusal>
         ensures { result ≡ abort_refusal (status_of self.now) self.now.edges t.0 }
@@ -178,8 +178,8 @@ impl<A: Allocator> Deps<A> {
             .or_else(|| self.clash(change))
     }
 
-    /// The lowest rule that `t` would break by joining another, with the smallest number of an edge that breaks it.
-    /// `None` if it breaks none.
+    /// Returns the lowest rule that `t` would break by joining another, with the number of the first edge that breaks
+    /// it. `None` if it breaks none.
     #[tactic(auto, unfolding(crate::specs::Dependencies::join_refusal, crate::specs::Dependencies::owing_abort, crate::specs::Dependencies::owing_commit))]
     pub fn may_join(&self, t: TxnId) -> Option<Refusal>
         ensures { result ≡ join_refusal (status_of self.now) self.now.edges t.0 }

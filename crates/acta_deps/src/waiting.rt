@@ -1,4 +1,4 @@
-//! Whether transactions wait for one another to end, so that none of them can.
+//! Finds waits-for cycles: transactions that wait for one another to end, so that none of them can.
 
 ghost use Rattle.std.specs.Prelude.{◌≡◌, ◌<◌, ◌+◌, ◌≤◌, length, get_or, true, Decides, IfOk, IfSome};
 ghost use Rattle.acta_table.specs.Edges.{is_among};
@@ -10,8 +10,8 @@ use acta_table::{Dep, Edge, Items, MOST_EDGES, Status, TxnId};
 use std::alloc::{AllocError, Allocator};
 use std::collections::BTreeSet;
 
-// A search through those for whom one waits: those on the way to the one that is looked at, with the edge of each that
-// is looked at next, and those that were met, and that were left again.
+// A depth-first search along waits-for edges: the current path, the next edge to try for each transaction on it, the
+// transactions met, and those finished.
 #[derive(Drop)]
 struct Search<A: Allocator> {
     path: Vec<TxnId, A>,
@@ -20,7 +20,7 @@ struct Search<A: Allocator> {
     left: BTreeSet<u16, A>,
 }
 
-// Whether the last is among those before it.
+// Whether the last transaction occurs earlier in the chain.
 fn is_closed(chain: &[TxnId]) -> bool
     ensures { result ≡ true → IsClosed chain.now }
 {
@@ -41,7 +41,7 @@ impl<A: Allocator> Deps<A> {
             && self.has(&Edge { kind, j, i })
     }
 
-    // Whether each waits for the next.
+    // Whether each transaction waits for the next.
     fn is_chain(&self, chain: &[TxnId]) -> bool
         ensures { result ≡ true → IsChain (status_of self.now) self.now.edges chain.now }
     {
@@ -55,7 +55,7 @@ impl<A: Allocator> Deps<A> {
 }
 
 impl<A: Allocator + Copy> Deps<A> {
-    // A way from `t` through those that wait for one another, to one that it met before; or nobody.
+    // A path from `t` along waits-for edges whose last transaction occurs on it earlier; empty if there is none.
     fn cycle_back_to(&self, t: TxnId) -> Result<Vec<TxnId, A>, AllocError> {
         let alloc = self.allocator();
         let mut search = Search {
@@ -67,7 +67,7 @@ impl<A: Allocator + Copy> Deps<A> {
         search.path.push(t)?;
         search.places.push(self.by_j().last(t))?;
         search.met.insert(t.0)?;
-        // (each edge is looked at once, and each transaction left once)
+        // (each edge is tried once, and each transaction finished once)
         for _ in 0..2 * MOST_EDGES {
             let Some(place) = search.places.pop() else {
                 break;
@@ -93,8 +93,8 @@ impl<A: Allocator + Copy> Deps<A> {
         Ok(Vec::new(alloc))
     }
 
-    /// A chain of transactions from `t` on, each of which waits for the next to end, where it comes back to one of
-    /// them: then none of these can commit or abort unless another event changes how one stands. `None` where no such
+    /// Returns a chain of transactions from `t` on, each waiting for the next to end, whose last occurs in it earlier.
+    /// The transactions of this cycle cannot commit or abort unless another event changes a status. `None` if no such
     /// chain was found.
     pub fn waits_for_cycle(&self, t: TxnId) -> Result<Option<Items<TxnId, A>>, AllocError>
         ensures chain { IfOk result (λ found. IfSome found (IsChain (status_of self.now) self.now.edges)) }

@@ -38,7 +38,7 @@ pub struct Asked<'a> {
 
 const LEGEND: &str = "The marks of a text, on the lane of a transaction:
   o   it starts               *N  it does operation N
-  C   it commits              *   it spawns, splits, delegates or permits
+  C   it commits              *   it spawns, splits, delegates or permits; or a form names it
   A   it aborts               |   it is in progress
   J   it joins another        x   an event of it is refused (`-` for its place)
   !   it owes an event in the end

@@ -91,9 +91,9 @@ fn near(from: (usize, usize), to: (usize, usize)) -> (usize, usize) {
     if y.saturating_sub(to_y) <= MOST_HEIGHT {
         to
     } else if to_x < x {
-        (x.saturating_sub(20), y.saturating_sub(18))
+        (x.saturating_sub(20), y.saturating_sub(12))
     } else {
-        (x.saturating_add(20), y.saturating_sub(18))
+        (x.saturating_add(20), y.saturating_sub(12))
     }
 }
 

@@ -2,6 +2,7 @@
 
 use crate::arrows::{Arrow, add_edge};
 use crate::lanes::Lanes;
+use crate::selection::name;
 use acta_explain::{MOST_RENDERED, Prose, put, put_line_text, put_operation, put_standing};
 use acta_hope::{Hope, Wait, deadlocks, wait_of};
 use acta_machine::{Handle, NumberedEdge};
@@ -19,21 +20,28 @@ pub struct Graph<A: Handle> {
     pub circles: Vec<Items<usize, A>, A>,
     /// The edges in force, those between the same two transactions as one arrow.
     pub arrows: Vec<Arrow<A>, A>,
+    /// How many arrows are left out, since they are too many.
+    pub left_out: usize,
     /// The transactions of both graphs, by number.
     pub txns: Vec<TxnId, A>,
 }
 
 impl<A: Handle> Graph<A> {
-    /// The graphs after the last event of the lanes.
-    pub fn of(lanes: &Lanes<A>) -> Result<Graph<A>, AllocError> {
+    /// The graphs after the last event of the lanes; without arrows where they are more than so many.
+    pub fn of(lanes: &Lanes<A>, most: usize) -> Result<Graph<A>, AllocError> {
         let alloc = lanes.run.allocator();
         let mut graph = Graph {
             waits: Vec::new(alloc),
             rows: Vec::new(alloc),
             circles: Vec::new(alloc),
             arrows: arrows_in(alloc, lanes.run.machine().edges())?,
+            left_out: 0,
             txns: Vec::new(alloc),
         };
+        if graph.arrows.len() > most {
+            graph.left_out = graph.arrows.len();
+            graph.arrows = Vec::new(alloc);
+        }
         graph.add_waits(lanes)?;
         graph.circles = deadlocks(alloc, graph.waits.as_slice())?;
         let named = graph.named(alloc)?;
@@ -87,7 +95,7 @@ impl<A: Handle> Graph<A> {
         Ok(closed)
     }
 
-    /// Adds how many transactions wait and how many edges are in force, and at which place.
+    /// Adds how many transactions wait and how many edges are in force, at which place, and what is left out.
     pub fn put_counts(&self, prose: Prose<A>, lanes: &Lanes<A>) -> Prose<A> {
         let machine = lanes.run.machine();
         let prose = put!(prose; "After place ", machine.history().len(), ": ");
@@ -104,10 +112,15 @@ impl<A: Handle> Graph<A> {
             "edge is in force",
             "edges are in force",
         );
-        match lanes.run.skipped() {
+        let prose = match self.left_out {
             0 => prose.put("."),
+            arrows =>
+                put!(prose; ". Their ", arrows, " arrows are left out: too many to be read. Without --svg all edges are listed."),
+        };
+        match lanes.run.skipped() {
+            0 => prose,
             skipped =>
-                put!(prose; ". ", skipped, " refused events are left out: only the first ", MOST_RENDERED,
+                put!(prose; " ", skipped, " refused events are left out: only the first ", MOST_RENDERED,
                 " are examined."),
         }
     }
@@ -123,13 +136,6 @@ impl<A: Handle> Graph<A> {
             gap = " -> ";
         }
         prose
-    }
-}
-
-// Notes that the transaction is in a graph.
-fn name(named: &mut [bool], t: TxnId) {
-    if let Some(is_named) = named.get_mut(usize::from(t.0)) {
-        *is_named = true;
     }
 }
 

@@ -6,8 +6,9 @@ use crate::lanes::Lanes;
 use crate::markup::{
     END, END_OF_GROUP, END_OF_TEXT, put_box, put_open, put_text, put_text_at, put_titled,
 };
+use crate::notation::put_event;
 use crate::svg_layout::{MARGIN, label_width};
-use crate::wrapping::put_cut;
+use crate::wrapping::{put_cut, wrapped};
 use acta_explain::{Prose, digits, put};
 use acta_machine::Handle;
 use acta_table::{Status, TxnId};
@@ -15,6 +16,9 @@ use std::alloc::AllocError;
 
 // The least distance of two transactions.
 const LEAST_GAP: usize = 72;
+
+// The most arrows of edges.
+const MOST_ARROWS: usize = 200;
 
 // The most characters of a label.
 const MOST_OF_LABEL: usize = 28;
@@ -35,9 +39,6 @@ const LABEL: usize = 16;
 const NODE: usize = 24;
 
 const LINE: usize = 20;
-
-// The least width of the whole.
-const LEAST_WIDTH: usize = 480;
 
 // An arc from one transaction to another.
 #[derive(Drop)]
@@ -156,16 +157,14 @@ fn wait_arcs<A: Handle>(lanes: &Lanes<A>, graph: &Graph<A>) -> Result<Arcs<A>, A
     let mut arcs = Vec::new(alloc);
     for (place, wait) in graph.waits.iter().enumerate() {
         let row = graph.rows.get(place).copied().unwrap_or(0);
-        let event = match lanes.run.texts().get(row) {
-            Some(text) => text.event.as_str(),
-            None => "",
-        };
+        let text = lanes.run.texts().get(row);
+        let event = text.map_or("", |text| text.event.as_str());
         let is_closed = closed.get(place) == Some(&true);
         arcs.push(Arc {
             from: place_of(graph.txns.as_slice(), wait.txn),
             to: place_of(graph.txns.as_slice(), wait.next),
             class: if is_closed { "wait closed" } else { "wait" },
-            label: put_cut(Prose::new(alloc), event, MOST_OF_LABEL).done()?,
+            label: put_event(Prose::new(alloc), event, "", MOST_OF_LABEL).done()?,
             title: put_wait(Prose::new(alloc), lanes, wait, row).done()?,
         })?;
     }
@@ -358,11 +357,13 @@ impl<'a, A: Handle> Sheet<'a, A> {
         out
     }
 
-    // The width of the whole.
+    // The width of the whole, with room for the meanings of the three lines, and for those of the statuses.
     fn width(&self) -> usize {
         let last = self.graph.txns.len().saturating_sub(1);
         let nodes = self.x(last).saturating_add(MARGIN * 3);
-        nodes.max(LEAST_WIDTH).max(ENTRY * 3 + MARGIN)
+        let statuses = STATUSES.iter().filter(|one| self.has_status(one.0)).count();
+        let entries = ENTRY.saturating_mul(statuses.max(3));
+        nodes.max(entries.saturating_add(MARGIN))
     }
 
     // Adds the whole picture, below these lines and above the line that stopped the run.
@@ -375,8 +376,7 @@ impl<'a, A: Handle> Sheet<'a, A> {
         let statuses_y = lines_y.saturating_add(LINE + 6);
         let stop_y = statuses_y.saturating_add(LINE + 10);
         let foot = if stop.is_empty() { 0 } else { LINE };
-        let out = put_open(out, self.width(), stop_y.saturating_add(foot));
-        let mut out = out;
+        let mut out = put_open(out, self.width(), stop_y.saturating_add(foot));
         let mut y = LINE;
         for line in head {
             let class = if line.as_str().starts_with("deadlock") {
@@ -394,11 +394,16 @@ impl<'a, A: Handle> Sheet<'a, A> {
     }
 }
 
-// The lines above the graphs: how much they have, and the deadlocks.
-fn head_of<A: Handle>(lanes: &Lanes<A>, graph: &Graph<A>) -> Result<Vec<String<A>, A>, AllocError> {
+// The lines above graphs of this width: how much they have, and the deadlocks.
+fn head_of<A: Handle>(
+    lanes: &Lanes<A>,
+    graph: &Graph<A>,
+    width: usize,
+) -> Result<Vec<String<A>, A>, AllocError> {
     let alloc = lanes.run.allocator();
-    let mut head = Vec::new(alloc);
-    head.push(graph.put_counts(Prose::new(alloc), lanes).done()?)?;
+    let counts = graph.put_counts(Prose::new(alloc), lanes).done()?;
+    let room = width.saturating_sub(2 * MARGIN) / 8;
+    let mut head = wrapped(alloc, counts.as_str(), room, false)?;
     for circle in graph.circles.iter() {
         head.push(
             graph
@@ -411,23 +416,21 @@ fn head_of<A: Handle>(lanes: &Lanes<A>, graph: &Graph<A>) -> Result<Vec<String<A
 
 /// The graphs as an SVG. The line that stopped the run, if one did, is below.
 pub fn draw_graph_svg<A: Handle>(lanes: &Lanes<A>, stop: &str) -> Result<String<A>, AllocError> {
-    let graph = Graph::of(lanes)?;
-    let head = head_of(lanes, &graph)?;
+    let graph = Graph::of(lanes, MOST_ARROWS)?;
     let waits = wait_arcs(lanes, &graph)?;
     let edges = edge_arcs(lanes, &graph)?;
     let gap = waits.least_gap().max(edges.least_gap());
-    let above = head
-        .len()
-        .saturating_mul(LINE)
-        .saturating_add(waits.extent());
-    let sheet = Sheet {
+    let mut sheet = Sheet {
         lanes,
         graph: &graph,
         waits,
         edges,
         gap,
-        base: above.saturating_add(NODE * 2),
+        base: 0,
     };
+    let head = head_of(lanes, &graph, sheet.width())?;
+    let above = head.len().saturating_mul(LINE).saturating_add(NODE * 2);
+    sheet.base = sheet.waits.extent().saturating_add(above);
     sheet
         .put_all(
             Prose::new(lanes.run.allocator()),

@@ -6,9 +6,9 @@ ghost use Rattle.acta_draw.specs.Rows.{place_after, returned};
 
 use crate::blockers::{Blocker, Blockers, blockers_of};
 use crate::marks::{Figure, figure_of};
-use acta_explain::{NonBlankLine, RunTrace, StepText, non_blank_lines};
+use acta_explain::{RunTrace, StepText};
 use acta_hope::heir;
-use acta_io::{BadLine, Input};
+use acta_io::{BadLine, Input, NonBlankLine};
 use acta_machine::Handle;
 use acta_table::{Answer, Edge, Event, Model, Owed, Ret, TxnId};
 use acta_trace::{Step, Steps};
@@ -101,11 +101,14 @@ impl<A: Handle> Lanes<A> {
     pub fn of(
         alloc: A,
         model: Model<A>,
-        read: Input<Event<A>, A>,
-        input: &[u8],
+        read: Input<'_, Event<A>, A>,
         last: Option<u32>,
     ) -> Result<Lanes<A>, AllocError> {
-        let Input { parsed, stop } = read;
+        let Input {
+            parsed,
+            lines,
+            stop,
+        } = read;
         let mut lanes = Lanes {
             run: RunTrace::new(alloc, model)?,
             places: Vec::new(alloc),
@@ -113,7 +116,7 @@ impl<A: Handle> Lanes<A> {
             stop,
             blockers: Vec::new(alloc),
         };
-        lanes.take_all(parsed, input, last)?;
+        lanes.take_all(parsed, lines.as_slice(), last)?;
         lanes.note_places()?;
         if lanes.stop.is_none() {
             lanes.owed = lanes.run.machine().owed()?;
@@ -121,19 +124,18 @@ impl<A: Handle> Lanes<A> {
         Ok(lanes)
     }
 
-    // Takes the events, each of which a line of the input says, up to the last place.
+    // Takes the events, each with its line, up to the last place.
     fn take_all(
         &mut self,
         events: Vec<Event<A>, A>,
-        input: &[u8],
+        lines: &[NonBlankLine<'_>],
         last: Option<u32>,
     ) -> Result<(), AllocError> {
-        let lines = non_blank_lines(self.run.allocator(), input)?;
         for (event, line) in events.into_iter().zip(lines) {
             if self.is_after(last, &event)? {
                 return Ok(());
             }
-            self.take(line, event)?;
+            self.take(*line, event)?;
         }
         Ok(())
     }
@@ -200,12 +202,6 @@ impl<A: Handle> Lanes<A> {
         let text = self.run.texts().get(number)?;
         let place = *self.places.get(number)?;
         Some(Row::of(number, step, text, place, heir, machine.edges()))
-    }
-
-    /// The edge of this number.
-    pub fn edge(&self, number: u64) -> Option<&Edge> {
-        let place = (number as usize).checked_sub(1)?;
-        self.run.machine().edges().get(place)
     }
 
     /// The steps, by which the rows are found that began and ended a transaction.

@@ -89,10 +89,7 @@ pub fn height(entries: &[Entry], width: usize) -> usize {
 
 // Whether the sign occurs in the row.
 fn occurs_in<A: Handle>(sign: Sign, row: &Row<'_, A>, row_box: &RowBox<A>) -> bool {
-    let tie = match row.figure.partner {
-        Some((_, tie)) => Some(tie),
-        None => None,
-    };
+    let tie = row.figure.partner.map(|(_, tie)| tie);
     match sign {
         Sign::Mark(Mark::Start) => row.step.began().is_some(),
         Sign::Mark(mark) => row.figure.actor.mark == mark,

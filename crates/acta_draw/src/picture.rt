@@ -87,7 +87,7 @@ pub fn draw_run<A: Handle>(
     };
     let read = read_lines(alloc, &reader, input)?;
     let is_refused = read.stop.is_some();
-    let lanes = Lanes::of(alloc, model, read, input, drawing.choice.last_place())?;
+    let lanes = Lanes::of(alloc, model, read, drawing.choice.last_place())?;
     let text = picture(alloc, &lanes, drawing, screen);
     drop(lanes);
     Ok(Report {

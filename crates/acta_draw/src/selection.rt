@@ -48,8 +48,8 @@ pub struct Selection<A: Handle> {
     named: Vec<bool, A>,
 }
 
-// Notes that something is drawn of the transaction.
-fn name(named: &mut [bool], t: TxnId) {
+/// Notes that something is drawn of the transaction.
+pub fn name(named: &mut [bool], t: TxnId) {
     if let Some(is_named) = named.get_mut(usize::from(t.0)) {
         *is_named = true;
     }

@@ -192,7 +192,7 @@ fn put_reason<A: Allocator>(mut prose: Prose<A>, reason: &str) -> Prose<A> {
 /// Adds by which edge something is owed.
 pub fn put_debt_note<A: Handle>(prose: Prose<A>, lanes: &Lanes<A>, owed: &Owed) -> Prose<A> {
     let number = owed.edge.0;
-    match lanes.edge(number) {
+    match lanes.run.lines().edge(number) {
         Some(edge) => put_numbered_edge(prose.put("by "), number, edge),
         None => prose,
     }
@@ -232,23 +232,24 @@ fn put_doing<A: Handle>(prose: Prose<A>, lanes: &Lanes<A>, row: &Row<'_, A>) -> 
         Event::Spawn(_, u, _) => put_class(put!(prose; t, " spawns ", u.0), lanes, *u),
         Event::Split(_, u, _, _) => {
             let prose = put_class(put!(prose; t, " splits off ", u.0), lanes, *u);
-            put_operations(prose, " and the operations ", words_after(event, 4))
+            put_operations(prose.put(", and "), words_after(event, 4))
         }
         Event::Join(_, u) => {
             put!(prose; t, " joins ", u.0, ", which gets all operations that ", t, " held in progress")
         }
         Event::Delegate(_, u, _) => {
-            let prose = put!(prose; t, " delegates to ", u.0);
-            put_operations(prose, " the operations ", words_after(event, 3))
+            let prose = put!(prose; t, " delegates ");
+            put!(put_operations(prose, words_after(event, 3)); " to ", u.0)
         }
         Event::Permit(_, u, _) => {
             put!(prose; t, " permits ", u.0, " to conflict with it on ", words_after(event, 3))
         }
+        Event::Form(_, _, i) if row.formed.is_empty() => put!(prose; t, " still depends on ", i.0),
         Event::Form(_, _, i) => put!(prose; t, " comes to depend on ", i.0),
         Event::Operate(_, _, _) => {
             let number = row.step.op.map_or(0, |op| op.0);
-            let prose = put!(prose; "operation ", number, ": ", t, " does ", words_after(event, 2),
-                ", which returns ");
+            let prose =
+                put!(prose; "operation ", number, ": ", t, " does ", words_after(event, 2), ", which returns ");
             match returned(&row.step.answer) {
                 Some(ret) => put_return(prose, ret),
                 None => prose.put("nothing"),
@@ -256,8 +257,7 @@ fn put_doing<A: Handle>(prose: Prose<A>, lanes: &Lanes<A>, row: &Row<'_, A>) -> 
         }
         Event::Commit(_) => match row.figure.partner {
             Some((parent, _)) => {
-                put!(prose; t, " commits, and its parent ", parent.txn.0,
-                    " gets all operations that it held in progress")
+                put!(prose; t, " commits, and its parent ", parent.txn.0, " gets all operations that it held in progress")
             }
             None => put!(prose; t, " commits"),
         },
@@ -266,10 +266,11 @@ fn put_doing<A: Handle>(prose: Prose<A>, lanes: &Lanes<A>, row: &Row<'_, A>) -> 
 }
 
 // Adds operations, by their numbers; `-` is none.
-fn put_operations<A: Allocator>(prose: Prose<A>, front: &str, operations: &str) -> Prose<A> {
+fn put_operations<A: Allocator>(prose: Prose<A>, operations: &str) -> Prose<A> {
     match operations {
-        "-" => prose.put(", and no operation"),
-        operations => put!(prose; front, operations),
+        "-" => prose.put("no operation"),
+        several if several.contains(',') => put!(prose; "operations ", several),
+        one => put!(prose; "operation ", one),
     }
 }
 

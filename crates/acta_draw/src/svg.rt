@@ -206,15 +206,8 @@ impl<'a, A: Handle> Drawn<'a, A> {
             "\" marker-end=\"url(#acta-draw-edge)\"/>\n");
         let above = y.saturating_sub(4);
         let most = self.layout.gap.saturating_sub(14) / 7;
-        let Ok(words) = put_cut(
-            Prose::new(self.lanes.run.allocator()),
-            arrow.label.as_str(),
-            most,
-        )
-        .done() else {
-            return out.fail();
-        };
-        put_text(out, "label", label, above, words.as_str()).put(END_OF_GROUP)
+        let out = put_text_at(out, "label", label, above);
+        put!(put_cut(out, arrow.label.as_str(), most); END_OF_TEXT, END_OF_GROUP)
     }
 
     // Adds a mark, where its lane is drawn. An operation has this label.

@@ -37,17 +37,19 @@ const FIRST_ARROW: usize = 26;
 const NEXT_ARROW: usize = 19;
 
 // The most characters of an event, and of the note below it.
-const MOST_WORDS: usize = 110;
+const MOST_WORDS: usize = 120;
 
 // The least and the largest distance of two lanes.
 const LEAST_GAP: usize = 84;
 
 const MOST_GAP: usize = 240;
 
-// The least width of the whole, and of its words.
+// The least width of the whole, of its words, and of these where something is owed in the end.
 const LEAST_WIDTH: usize = 480;
 
 const LEAST_WORDS: usize = 240;
+
+const OWED_WORDS: usize = 450;
 
 /// A row that is drawn, with what is shown of it, and where.
 #[derive(Drop)]
@@ -242,7 +244,8 @@ impl<A: Handle> SvgLayout<A> {
         let boxes = boxes_of(lanes, selection)?;
         let rows_end = boxes.last().map_or(HEADS, |row_box| row_box.end);
         let gap = gap_of(lanes, selection, boxes.as_slice());
-        let mut words = LEAST_WORDS;
+        let has_debts = selection.has_end && !lanes.owed.is_empty();
+        let mut words = if has_debts { OWED_WORDS } else { LEAST_WORDS };
         for row_box in boxes.iter() {
             words = words.max(text_width(row_box.event.as_str(), 12, CODE));
             words = words.max(note_width(row_box.note.as_str()));

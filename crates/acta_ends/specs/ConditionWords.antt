@@ -23,11 +23,11 @@ abbrev pub term_words : {A : Type 0} → Parts A → List ℕ → Term A → Lis
 term_words m numbers t =
     if t.is_negated then codes "not" ∷ test_words m numbers t.test else test_words m numbers t.test
 
--- the same after `and`
+-- the same, after `and`
 abbrev pub and_words : {A : Type 0} → Parts A → List ℕ → Term A → List (List ℕ)
 and_words m numbers t = codes "and" ∷ term_words m numbers t
 
--- terms, with `and` between each two
+-- terms separated by `and`
 abbrev pub condition_words : {A : Type 0} → Parts A → List ℕ → List (Term A) → List (List ℕ)
 condition_words m numbers [] = []
 condition_words m numbers (t ∷ ts) = term_words m numbers t ++ flat_map (and_words m numbers) ts

@@ -47,7 +47,7 @@ has_number n (Register v) = int_eq v n
 has_number n (Counter v) = int_eq v n
 has_number n (Elements es) = false
 
--- whether a set has these elements, ascending, and no others
+-- whether a set has exactly these elements, ascending
 abbrev pub has_elements : {A : Type 0} → List ℤ → ObjectState A → Bool
 has_elements xs (Register v) = false
 has_elements xs (Counter v) = false
@@ -57,7 +57,7 @@ has_elements xs (Elements es) = pointwise int_eq es xs
 abbrev pub value_at : {A : Type 0} → Outcome A → ObjId → Option (ObjectState A)
 value_at o ob = option_and_then (λ v. v) (slice_get o.values ob.0)
 
--- what the line at position l returned, if it did an operation
+-- the return of the line at position l, if it did an operation
 abbrev pub return_at : {A : Type 0} → Outcome A → ℕ → Option Ret
 return_at o l = option_and_then (λ done. option_and_then (λ d. d.ret) done) (slice_get o.lines l)
 
@@ -71,18 +71,18 @@ test_holds o (test.Number ob n) = option_map_or (has_number n) (value_at o ob) f
 test_holds o (test.Elements ob xs) = option_map_or (has_elements xs.items) (value_at o ob) false
 test_holds o (test.Returned l ret) = option_map_or (is_same_return ret) (return_at o l) false
 
--- the same for a test with `not` or without it
+-- the same for a term: the test must fail after `not`
 abbrev pub term_holds : {A : Type 0} → Outcome A → Term A → Bool
 term_holds o t = if t.is_negated then not (test_holds o t.test) else test_holds o t.test
 
--- whether the condition holds of the outcome: whether each of its tests does
+-- whether each test of the condition holds of the outcome
 abbrev pub holds : {A : Type 0} → Condition A → Outcome A → Bool
 holds c o = list_all (term_holds o) c.terms.items
 
--- whether there is an outcome at this place, of which the condition holds
+-- whether there is an outcome at this place, and the condition holds of it
 abbrev pub holds_at : {A : Type 0} → Condition A → List (Outcome A) → ℕ → Bool
 holds_at c outcomes place = option_map_or (holds c) (slice_get outcomes place) false
 
--- the places, from 0, of the ends of which the condition holds
+-- the places, from 0, of the ends for which the condition holds
 abbrev pub kept_places : {A : Type 0} → Condition A → Found A → List ℕ
 kept_places c found = filter (holds_at c found.outcomes) (range_with_len 0 (length found.ends))

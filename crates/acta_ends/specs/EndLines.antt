@@ -1,4 +1,4 @@
--- The lines of ends, as programs read them.
+-- The lines of ends, for other programs to read.
 use Rattle.std.specs.Prelude.{ℕ, ◌+◌, Bool, List, [], ◌∷◌, ◌++◌, map, filter, length, get_or, codes, decimal, nat_lt, if◌then◌else◌, Option, Some, None}
 use Rattle.std.specs.Fmt.{signed_decimal}
 use Rattle.std.specs.Option.{option_map_or}
@@ -22,7 +22,7 @@ use Rattle.acta_explore.specs.Programs.{Programs}
 use Rattle.acta_ends.specs.declared.condition.Condition.{Condition}
 use Rattle.acta_ends.specs.Conditions.{holds}
 
--- how programs ended, by the seats that wait and by what is owed
+-- how programs ended, by whether seats wait and whether there are debts
 abbrev pub kind_words : {X Y : Type 0} → List X → List Y → List (List ℕ)
 kind_words [] [] = codes "complete" ∷ []
 kind_words (wait ∷ waits) [] = codes "stuck" ∷ []
@@ -37,7 +37,7 @@ head_line k o = line_of (codes "end" ∷ decimal k ∷ kind_words o.waiting o.de
 abbrev pub number_word : List ℕ → ℕ → List ℕ
 number_word numbers l = decimal (get_or numbers l 0)
 
--- an alternative: programs count them from 1
+-- the number of an alternative, counted from 1
 abbrev pub alternative_word : ℕ → List ℕ
 alternative_word alternative = decimal (alternative + 1)
 
@@ -91,7 +91,7 @@ abbrev pub return_lines : List ℕ → ℕ → Option Done → List (List ℕ)
 return_lines numbers l None = []
 return_lines numbers l (Some done) = option_map_or (λ ret. return_line numbers l ret ∷ []) done.ret []
 
--- a step: the line that it did, with the alternative where the line has more than one
+-- a step: the line that it did, with the alternative if the line has more than one
 abbrev pub step_word : {A : Type 0} → Programs A → List ℕ → Step → List ℕ
 step_word programs numbers s =
     if has_choice programs s.line
@@ -102,7 +102,7 @@ step_word programs numbers s =
 abbrev pub order_line : {A : Type 0} → Programs A → List ℕ → List Step → List ℕ
 order_line programs numbers steps = line_of (codes "order" ∷ map (step_word programs numbers) steps)
 
--- the lines for each item by its position, where the first has the position n
+-- the lines for each item by its position; the first has the position n
 abbrev pub lines_from : {X : Type 0} → (ℕ → X → List (List ℕ)) → ℕ → List X → List (List ℕ)
 lines_from lines n [] = []
 lines_from lines n (x ∷ xs) = lines n x ++ lines_from lines (n + 1) xs
@@ -119,15 +119,15 @@ end_lines m programs numbers k o steps =
     ++ (lines_from (return_lines numbers) 0 o.lines
     ++ order_line programs numbers steps ∷ []))))))
 
--- those of the end at a point
+-- the lines of the end at a point
 abbrev pub point_lines : {A : Type 0} → Parts A → Programs A → List ℕ → ℕ → Point A → List (List ℕ)
 point_lines m programs numbers k p = end_lines m programs numbers k (outcome programs p) p.steps
 
--- whether the condition holds at the end at a point
+-- whether the condition holds for the end at a point
 abbrev pub is_kept : {A : Type 0} → Programs A → Condition A → Point A → Bool
 is_kept programs c p = holds c (outcome programs p)
 
--- the lines of the end at a point, if the condition holds there
+-- the lines of the end at a point, if the condition holds for it
 abbrev pub kept_lines : {A : Type 0} → Parts A → Programs A → List ℕ → Condition A → ℕ → Point A → List (List ℕ)
 kept_lines m programs numbers c k p = if is_kept programs c p then point_lines m programs numbers k p else []
 
@@ -135,7 +135,7 @@ kept_lines m programs numbers c k p = if is_kept programs c p then point_lines m
 abbrev pub count_line : ℕ → List ℕ
 count_line n = line_of (codes "ends" ∷ decimal n ∷ [])
 
--- the lines of the ends for which the condition holds, with their numbers among all ends, from 1, and how many they are
+-- the lines of the ends for which the condition holds, with their numbers among all ends, from 1, then how many there are
 unfoldable pub explored_lines : {A : Type 0} → Parts A → Programs A → List ℕ → Condition A → List (Point A) → List (List ℕ)
 explored_lines m programs numbers c points =
     lines_from (kept_lines m programs numbers c) 1 points ++ count_line (length (filter (is_kept programs c) points)) ∷ []

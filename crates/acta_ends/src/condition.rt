@@ -12,19 +12,19 @@ use std::alloc::Allocator;
 /// A question about an end.
 #[derive(Drop)]
 pub enum Test<A: Allocator> {
-    /// No seat waits, and nothing is owed.
+    /// No seat waits, and there is no debt.
     Complete,
     /// A seat waits.
     Stuck,
-    /// Something is owed.
+    /// There is a debt.
     Owing,
     /// The transaction has begun, and has this status.
     Status(TxnId, Status),
     /// The register or the counter has this value.
     Number(ObjId, i64),
-    /// The set has these elements, which are ascending here, and no others.
+    /// The set has exactly these elements, which are ascending here.
     Elements(ObjId, Vec<i32, A>),
-    /// The line at this position among the lines of the programs, from 0, did an operation that returned this.
+    /// The line at this position among the lines of the programs, from 0, did an operation with this return.
     Returned(usize, Ret),
 }
 
@@ -36,7 +36,7 @@ pub struct Term<A: Allocator> {
     pub test: Test<A>,
 }
 
-/// Tests that an end must all pass. Every end meets a condition without a test.
+/// Tests that an end must all pass. Every end meets a condition without tests.
 #[derive(Drop)]
 pub struct Condition<A: Allocator> {
     pub terms: Vec<Term<A>, A>,
@@ -74,7 +74,7 @@ fn has_number<A: Allocator>(value: &Value<A>, number: i64) -> bool
     }
 }
 
-// Whether a set has these elements, ascending, and no others.
+// Whether a set has exactly these elements, ascending.
 fn has_elements<A: Allocator>(value: &Value<A>, elements: &[i32]) -> bool
     ensures { result ≡ has_elements elements.now (shown_value value.now) }
 {
@@ -94,7 +94,7 @@ fn value_at<A: Allocator>(outcome: &Outcome<A>, object: ObjId) -> Option<&Value<
     }
 }
 
-// What the line returned, if it did an operation.
+// The return of the line, if it did an operation.
 fn return_at<A: Allocator>(outcome: &Outcome<A>, line: usize) -> Option<Ret>
     ensures { result ≡ return_at (shown outcome.now) line }
 {

@@ -38,7 +38,7 @@ fn push_end_at<A: Handle>(
     push_end(text, model, lines, numbers, number, outcome, point.steps())
 }
 
-// Writes the end at this place, if there is one for which the condition holds, with this number. Answers whether it did.
+// Writes the end at this place with this number, if there is one and the condition holds for it. Returns whether it did.
 fn push_kept_at<A: Handle>(
     text: &mut Vec<u8, A>,
     model: &Model<A>,
@@ -69,8 +69,8 @@ fn push_count<A: Allocator>(text: &mut Vec<u8, A>, count: usize) -> Result<(), A
     push_line(text, b"")
 }
 
-/// The ends of programs for which the condition holds, as text: the lines of each, with its number among all ends, from
-/// 1, and then how many were written. `numbers` has the number in the input of each line of the programs.
+/// The ends of programs for which the condition holds, as text: the lines of each, with its number among all ends, from 1,
+/// then the number of ends written. `numbers` has the number in the input of each line of the programs.
 #[tactic(auto, unfolding(crate::specs::EndLines::explored_lines))]
 pub fn ends_lines<A: Handle>(
     alloc: A,

@@ -1,4 +1,4 @@
-//! Why a text is no condition.
+//! Why a text is not a condition.
 
 ghost use Rattle.std.specs.Prelude.{◌≡◌};
 ghost use Rattle.acta_ends.specs.declared.fault.ConditionError.TheVariants as error;
@@ -29,16 +29,16 @@ pub enum Expected {
     And,
 }
 
-/// Where a text is no condition.
+/// Where a text stops being a condition.
 #[derive(Clone, Copy, PartialEq, Eq, Debug)]
 pub struct ConditionFault {
-    /// The position of the word among the words, from 0. It is how many words there are if a word is missing at the end.
+    /// The position of the word, from 0, or the number of words if a word is missing at the end.
     pub word: usize,
     /// What is expected there.
     pub expected: Expected,
 }
 
-/// Why a text gave no condition.
+/// Why reading a condition failed.
 #[derive(Clone, Copy, PartialEq, Eq, Debug)]
 pub enum ConditionError {
     Fault(ConditionFault),

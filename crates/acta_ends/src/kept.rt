@@ -8,7 +8,7 @@ use acta_explore::Explored;
 use acta_machine::Handle;
 use std::alloc::AllocError;
 
-/// Whether there is an end at this place, from 0, for which the condition holds.
+/// Whether there is an end at this place, from 0, and the condition holds for it.
 pub(crate) fn is_kept<A: Handle>(
     explored: &Explored<A>,
     condition: &Condition<A>,

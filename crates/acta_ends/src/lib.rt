@@ -13,8 +13,7 @@
 //!
 //! with the lines from `wait` to `return` as often as there is something to write. `LINE` is the number of a line in the
 //! input. In `order` it is `LINE.A` for a line with more than one alternative. `ends N` follows the last end. Only the ends
-//! for which a condition holds are written, and `N` is how many these are. A call that allocates returns `Err` if memory
-//! runs out.
+//! for which a condition holds are written, and `N` is their number. A call that allocates returns `Err` if memory runs out.
 #![tactic(auto)]
 
 mod condition;

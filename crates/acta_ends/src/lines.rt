@@ -33,7 +33,7 @@ fn push_chosen<A: Allocator>(
     push_line(text, b"")
 }
 
-/// Writes which alternatives happened, a line for each line with more than one that was done.
+/// Writes which alternatives happened, one line for each line of the programs that was done and has more than one.
 pub(crate) fn push_choices<A: Allocator>(
     text: &mut Vec<u8, A>,
     lines: &[ProgramLine<A>],
@@ -48,7 +48,7 @@ pub(crate) fn push_choices<A: Allocator>(
     Ok(())
 }
 
-// Writes what a line returned.
+// Writes the return of a line.
 fn push_returned<A: Allocator>(
     text: &mut Vec<u8, A>,
     numbers: &[usize],
@@ -63,7 +63,7 @@ fn push_returned<A: Allocator>(
     push_line(text, b"")
 }
 
-// Writes what a line returned, if it did an operation.
+// Writes the return of a line, if it did an operation.
 fn push_return_of<A: Allocator>(
     text: &mut Vec<u8, A>,
     numbers: &[usize],
@@ -81,7 +81,7 @@ fn push_return_of<A: Allocator>(
     }
 }
 
-/// Writes what lines returned, a line for each line that did an operation.
+/// Writes the returns, one line for each line of the programs that did an operation.
 pub(crate) fn push_returns<A: Allocator>(
     text: &mut Vec<u8, A>,
     numbers: &[usize],
@@ -95,7 +95,7 @@ pub(crate) fn push_returns<A: Allocator>(
     Ok(())
 }
 
-// Writes a space and the line that a step did, with its alternative where the line has more than one.
+// Writes a space and the line that a step did, with its alternative if the line has more than one.
 fn push_step<A: Allocator>(
     text: &mut Vec<u8, A>,
     lines: &[ProgramLine<A>],
@@ -111,7 +111,7 @@ fn push_step<A: Allocator>(
     Ok(())
 }
 
-// Writes the lines that steps did, each behind a space.
+// Writes the lines that steps did, each after a space.
 fn push_steps<A: Allocator>(
     text: &mut Vec<u8, A>,
     lines: &[ProgramLine<A>],

@@ -4,7 +4,8 @@
 //! complete | stuck | owing | T STATUS | OBJECT = VALUE | LINE = RETURN
 //! ```
 //!
-//! The sign may touch its neighbours. A word before a sign is an object or a line, whatever it is without the sign.
+//! The sign may touch its neighbours. A word before a sign is always an object or a line, even if it has another meaning
+//! elsewhere.
 
 ghost use Rattle.std.specs.Prelude.{◌<◌, length, IfOk};
 
@@ -18,7 +19,7 @@ use acta_table::{Event, Kind, Model, ObjId, Status, TxnId};
 use acta_words::{read_i32, read_i64, read_u16, read_u32, words_of};
 use std::alloc::{AllocError, Allocator};
 
-// The status that the word says, of a transaction that has begun.
+// The status that the word names, of a transaction that has begun.
 fn status_named(word: &[u8]) -> Option<Status> {
     [
         Status::InProgress,
@@ -31,7 +32,7 @@ fn status_named(word: &[u8]) -> Option<Status> {
     .find(|status| word == status_word(*status))
 }
 
-// The position of the line of the programs that has this number in the input.
+// The position of the line of the programs with this number in the input.
 fn line_named(numbers: &[usize], word: &[u8]) -> Option<usize> {
     let number = read_u32(word)? as usize;
     numbers.iter().position(|one| *one == number)
@@ -70,7 +71,7 @@ fn is_started<A: Allocator>(lines: &[ProgramLine<A>], txn: TxnId) -> bool {
     false
 }
 
-// The object of the model that has this name.
+// The object of the model with this name.
 fn object_named<A: Allocator>(model: &Model<A>, word: &[u8]) -> Option<ObjId> {
     let place = model
         .objects()
@@ -79,7 +80,7 @@ fn object_named<A: Allocator>(model: &Model<A>, word: &[u8]) -> Option<ObjId> {
     Some(ObjId(u16::try_from(place).ok()?))
 }
 
-// Adds the element that the word says; answers whether it says one.
+// Adds the element that the word names; returns whether it names one.
 fn add_element<A: Allocator + Copy>(
     members: &mut Members<A>,
     word: &[u8],
@@ -93,7 +94,7 @@ fn add_element<A: Allocator + Copy>(
     }
 }
 
-// Adds the elements that the word says, with commas between them; answers whether each part says one.
+// Adds the elements of a list separated by commas; returns whether each part is one.
 fn add_elements<A: Allocator + Copy>(
     members: &mut Members<A>,
     word: &[u8],
@@ -110,7 +111,7 @@ fn add_elements<A: Allocator + Copy>(
     add_element(members, &word[start..])
 }
 
-// The elements of the set that the word says, ascending, each once.
+// The elements of the set that the word names, ascending, each once.
 fn elements_of<A: Allocator + Copy>(
     alloc: A,
     word: &[u8],
@@ -126,7 +127,7 @@ fn elements_of<A: Allocator + Copy>(
     Ok(None)
 }
 
-// The test that an object of this kind has the value that the word says.
+// The test that an object of this kind has the value that the word names.
 fn value_test<A: Allocator + Copy>(
     alloc: A,
     object: ObjId,
@@ -157,7 +158,7 @@ fn alone<A: Allocator>(test: Test<A>, rest: Rest<'_, '_>) -> Result<Test<A>, Con
     }
 }
 
-// OBJECT = VALUE, read from the value on
+// OBJECT = VALUE, read from VALUE on
 fn read_value<A: Allocator + Copy>(
     alloc: A,
     model: &Model<A>,
@@ -179,7 +180,7 @@ fn read_value<A: Allocator + Copy>(
     }
 }
 
-// LINE = RETURN, read from the return on
+// LINE = RETURN, read from RETURN on
 fn read_returned<A: Allocator>(
     lines: &[ProgramLine<A>],
     numbers: &[usize],
@@ -201,7 +202,7 @@ fn read_returned<A: Allocator>(
     alone(Test::Returned(line, ret), rest)
 }
 
-// T STATUS, read from the status on
+// T STATUS, read from STATUS on
 fn read_status<A: Allocator>(
     lines: &[ProgramLine<A>],
     first: Token<'_>,
@@ -233,7 +234,7 @@ fn plain_test<A: Allocator>(word: &[u8]) -> Option<Test<A>> {
     }
 }
 
-// complete, stuck or owing, after it was read
+// complete, stuck or owing, already read
 fn read_plain<A: Allocator>(
     word: Token<'_>,
     rest: Rest<'_, '_>,
@@ -273,7 +274,7 @@ fn read_test<A: Allocator + Copy>(
     }
 }
 
-// What follows a `not`, if the first token is one.
+// The tokens after a `not`, if the first token is one.
 fn after_not<'t, 'a>(rest: Rest<'t, 'a>) -> Option<Rest<'t, 'a>> {
     let (first, others) = rest.split()?;
     if first.text == NOT && others.after_sign().is_none() {
@@ -345,9 +346,9 @@ fn read_terms<A: Allocator + Copy>(
     Ok(Condition { terms })
 }
 
-/// The condition that the text says of these lines of programs. `numbers` has the number of each in the input. The elements
-/// of a set are made ascending, each once. A condition that was read has a test. `Fault` has the first word at which
-/// something else is expected; a transaction that no event starts and a line without an operation are none.
+/// Parses the text into a condition on the ends of these lines of programs, with at least one test. `numbers` has the number
+/// of each line in the input. The elements of a set are sorted, each once. `Fault` has the first unexpected word; a
+/// transaction that no event starts, and a line without an operation, are unexpected, too.
 pub fn read_condition<A: Allocator + Copy>(
     alloc: A,
     model: &Model<A>,

@@ -22,7 +22,7 @@ fn push_status<A: Allocator>(text: &mut Vec<u8, A>, status: &TxnStatus) -> Resul
     push_line(text, b"")
 }
 
-/// Writes the statuses of transactions, a line each.
+/// Writes the statuses of transactions, one per line.
 pub(crate) fn push_statuses<A: Allocator>(
     text: &mut Vec<u8, A>,
     statuses: &[TxnStatus],
@@ -46,7 +46,7 @@ fn push_state<A: Allocator>(text: &mut Vec<u8, A>, value: &Value<A>) -> Result<(
     }
 }
 
-// The name of the object at this position in the model; empty where there is none.
+// The name of the object at this position in the model, or nothing if there is none.
 fn name_at<A: Allocator>(model: &Model<A>, place: usize) -> &[u8]
     ensures { result.now ≡ object_word model.now (record { 0 = place }) }
 {
@@ -74,7 +74,7 @@ fn push_value<A: Allocator>(
     push_line(text, b"")
 }
 
-/// Writes the values of the objects, a line each.
+/// Writes the values of the objects, one per line.
 pub(crate) fn push_values<A: Allocator>(
     text: &mut Vec<u8, A>,
     model: &Model<A>,
@@ -101,7 +101,7 @@ fn push_debt<A: Allocator>(text: &mut Vec<u8, A>, debt: &Debt) -> Result<(), All
     Ok(())
 }
 
-/// Writes debts, a line each.
+/// Writes debts, one per line.
 pub(crate) fn push_debts<A: Allocator>(
     text: &mut Vec<u8, A>,
     debts: &[Debt],

@@ -1,4 +1,4 @@
-//! Conditions, written as they are read.
+//! Conditions written in the form in which they are read.
 
 ghost use Rattle.std.specs.Prelude.{◌≡◌, ◌++◌, ◌∷◌, [], codes, drop, flat_map, IfOk, OnOk};
 ghost use Rattle.std.specs.Fmt.{signed_decimal};
@@ -78,7 +78,7 @@ fn push_returned<A: Allocator>(
     push_return(text, ret)
 }
 
-// Writes a test, each word behind a space.
+// Writes a test, each word after a space.
 fn push_test<A: Allocator>(
     text: &mut Vec<u8, A>,
     model: &Model<A>,
@@ -98,7 +98,7 @@ fn push_test<A: Allocator>(
     }
 }
 
-// Writes a test and a `not` before it if it must fail, each word behind a space.
+// Writes a test, after a `not` if it must fail, each word after a space.
 fn push_term<A: Allocator>(
     text: &mut Vec<u8, A>,
     model: &Model<A>,
@@ -114,7 +114,7 @@ fn push_term<A: Allocator>(
     push_test(text, model, numbers, &term.test)
 }
 
-// Writes an `and` and a term, each word behind a space.
+// Writes an `and` and a term, each word after a space.
 fn push_and<A: Allocator>(
     text: &mut Vec<u8, A>,
     model: &Model<A>,
@@ -127,7 +127,7 @@ fn push_and<A: Allocator>(
     push_term(text, model, numbers, term)
 }
 
-// Writes terms, each word behind a space.
+// Writes terms, each word after a space.
 fn push_ands<A: Allocator>(
     text: &mut Vec<u8, A>,
     model: &Model<A>,
@@ -142,7 +142,7 @@ fn push_ands<A: Allocator>(
     Ok(())
 }
 
-// Writes the words of terms, each behind a space.
+// Writes the words of terms, each after a space.
 fn push_terms<A: Allocator>(
     text: &mut Vec<u8, A>,
     model: &Model<A>,
@@ -168,8 +168,8 @@ fn unspaced(text: &[u8]) -> &[u8]
     }
 }
 
-/// The words of the condition, with a space between each two, as `read_condition` reads them. `numbers` has the number
-/// in the input of each line of the programs.
+/// The words of the condition, separated by spaces, in the form that `read_condition` reads. `numbers` has the number in the
+/// input of each line of the programs.
 pub fn condition_text<A: Allocator + Copy>(
     alloc: A,
     model: &Model<A>,

@@ -1,4 +1,4 @@
-//! The tokens of a condition: its words, each parted at the signs in it. `x=1` is one word and three tokens.
+//! The tokens of a condition: its words, split at the signs. `x=1` is one word and three tokens.
 
 use crate::fault::{ConditionFault, Expected};
 use std::alloc::{AllocError, Allocator};
@@ -20,7 +20,7 @@ impl<'a> Token<'a> {
         self.text == SIGN
     }
 
-    /// The fault that something else is expected here.
+    /// The fault that something else is expected at this token.
     pub(crate) fn fault(&self, expected: Expected) -> ConditionFault {
         ConditionFault {
             word: self.word,
@@ -58,7 +58,7 @@ pub(crate) fn tokens_of<'a, A: Allocator + Copy>(
     Ok(tokens)
 }
 
-/// Tokens that are still to be read.
+/// The tokens still to be read.
 #[derive(Clone, Copy)]
 pub(crate) struct Rest<'t, 'a> {
     pub tokens: &'t [Token<'a>],
@@ -81,7 +81,7 @@ impl<'t, 'a> Rest<'t, 'a> {
         ))
     }
 
-    /// What follows a sign, if the first token is one.
+    /// The tokens after a sign, if the first token is one.
     pub(crate) fn after_sign(self) -> Option<Rest<'t, 'a>> {
         match self.split() {
             Some((first, others)) if first.is_sign() => Some(others),
@@ -89,7 +89,7 @@ impl<'t, 'a> Rest<'t, 'a> {
         }
     }
 
-    /// The fault that something else is expected at the first token, or at the end where there is none.
+    /// The fault that something else is expected at the first token, or at the end if there is none.
     pub(crate) fn fault(self, expected: Expected) -> ConditionFault {
         match self.tokens.first() {
             Some(first) => first.fault(expected),

@@ -1,4 +1,4 @@
-//! How programs ended in one line, and the seats that wait.
+//! The first line of an end, and the seats that wait.
 
 ghost use Rattle.std.specs.Prelude.{◌≡◌, ◌++◌, ◌∷◌, [], map, flat_map, OnOk};
 ghost use Rattle.acta_words.specs.Text.{text_of};
@@ -11,7 +11,7 @@ use acta_table::Rule;
 use acta_words::{push_line, push_natural, push_word};
 use std::alloc::{AllocError, Allocator};
 
-// Writes how programs ended, each word behind a space.
+// Writes how programs ended, each word after a space.
 fn push_kind<A: Allocator>(text: &mut Vec<u8, A>, outcome: &Outcome<A>) -> Result<(), AllocError>
     ensures { OnOk result (text.new.items ≡ text.old.items ++ flat_map (λ word. 32 ∷ word) (kind_words (shown outcome.now).waiting (shown outcome.now).debts)) }
 {
@@ -37,7 +37,7 @@ pub(crate) fn push_head<A: Allocator>(
     push_line(text, b"")
 }
 
-// Writes the numbers of the rules, each behind a space.
+// Writes the numbers of the rules, each after a space.
 fn push_rules<A: Allocator>(text: &mut Vec<u8, A>, rules: &[Rule]) -> Result<(), AllocError>
     ensures { OnOk result (text.new.items ≡ text.old.items ++ flat_map (λ word. 32 ∷ word) (map rule_word rules.now)) }
 {
@@ -47,7 +47,7 @@ fn push_rules<A: Allocator>(text: &mut Vec<u8, A>, rules: &[Rule]) -> Result<(),
     Ok(())
 }
 
-// Writes where a seat waits.
+// Writes the line at which a seat waits.
 fn push_wait<A: Allocator>(
     text: &mut Vec<u8, A>,
     numbers: &[usize],
@@ -63,7 +63,7 @@ fn push_wait<A: Allocator>(
     Ok(())
 }
 
-/// Writes where seats wait, a line each.
+/// Writes the waiting seats, one per line.
 pub(crate) fn push_waits<A: Allocator>(
     text: &mut Vec<u8, A>,
     numbers: &[usize],

@@ -1,4 +1,4 @@
-//! Words that several lines and conditions have.
+//! Words shared by lines and conditions.
 
 ghost use Rattle.std.specs.Prelude.{◌≡◌, ◌++◌, ◌∷◌, OnOk, get_or};
 ghost use Rattle.acta_ends.specs.EndLines.{alternative_word, has_choice, number_word};
@@ -8,13 +8,13 @@ use acta_words::push_natural;
 use itoa::Buffer;
 use std::alloc::{AllocError, Allocator};
 
-/// No seat waits, and nothing is owed.
+/// No seat waits, and there is no debt.
 pub(crate) const COMPLETE: &[u8] = b"complete";
 
 /// A seat waits.
 pub(crate) const STUCK: &[u8] = b"stuck";
 
-/// Something is owed.
+/// There is a debt.
 pub(crate) const OWING: &[u8] = b"owing";
 
 /// Before a test that must fail.

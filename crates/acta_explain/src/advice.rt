@@ -1,9 +1,11 @@
-//! What a verdict suggests to do next.
+//! The suggestion that follows from a verdict.
 
 ghost use Rattle.std.specs.Prelude.{◌≡◌, IfOk};
 ghost use Rattle.std.specs.List.{list_all, list_any};
-ghost use Rattle.acta_explain.specs.Advice.{advice_by, advice_in, advice_of, has_return, is_mild};
+ghost use Rattle.acta_explain.specs.Advice.{advice_by, advice_in, advice_of, advice_on, has_return, is_mild};
+ghost use Rattle.acta_io.specs.Input.{parsed_in};
 ghost use Rattle.acta_io.specs.Models.{of_either};
+ghost use Rattle.acta_script.specs.Reading.{kept_of};
 
 use acta_axioms::{Axiom, Fault};
 use acta_io::{KeptLines, ModelError, read_lines, read_model};
@@ -13,17 +15,17 @@ use acta_table::{Kept, MOST_EVENTS, Model};
 use std::alloc::AllocError;
 use std::thread::Threads;
 
-/// What a verdict on kept lines suggests.
+/// A suggestion that follows from the verdict on kept lines.
 #[derive(Clone, Copy, PartialEq, Eq, Debug)]
 pub enum Advice {
-    /// There are faults, each is a wrong return or a conflict, and some line has a return: there may be a serial order all the
-    /// same.
+    /// There are faults, all of them wrong returns or conflicts, and some line has a return: there may still be a serial
+    /// order.
     Serialize,
-    /// There are faults, each is a wrong return or a conflict, and no line has a return: they are perhaps event lines.
+    /// There are faults, all of them wrong returns or conflicts, and no line has a return: perhaps these are event lines.
     SayReturns,
 }
 
-// Whether it is a wrong return or a conflict.
+// Whether the fault is a wrong return or a conflict.
 fn is_mild(fault: &Fault) -> bool
     ensures { result ≡ is_mild fault.now }
 {
@@ -37,7 +39,7 @@ fn has_return<A: Handle>(kept: &Kept<A>) -> bool
     kept.ret.is_some()
 }
 
-// Whether each is a wrong return or a conflict.
+// Whether each fault is a wrong return or a conflict.
 fn are_mild(faults: &[Fault]) -> bool
     ensures { result ≡ list_all is_mild faults.now }
 {
@@ -51,7 +53,7 @@ fn have_return<A: Handle>(kept: &[Kept<A>]) -> bool
     kept.iter().any(|one| has_return(one))
 }
 
-// What is suggested where these are the faults of the items.
+// The suggestion for items with these faults.
 fn advice_in<A: Handle>(kept: &[Kept<A>], faults: &[Fault]) -> Option<Advice>
     ensures { result ≡ advice_in kept.now faults.now }
 {
@@ -64,7 +66,7 @@ fn advice_in<A: Handle>(kept: &[Kept<A>], faults: &[Fault]) -> Option<Advice>
     }
 }
 
-// What is suggested for kept items.
+// The suggestion for kept items.
 fn advice_of<A: Handle + Send + Sync, R: Threads + Sync>(
     rt: &R,
     alloc: A,
@@ -82,8 +84,24 @@ fn advice_of<A: Handle + Send + Sync, R: Threads + Sync>(
     }
 }
 
-/// What the verdict on the kept lines of an input suggests, for the bytes of a model. `None` where the model or a line is
-/// faulty, or the lines are too many. Returns `Err` if memory runs out.
+// The suggestion for the kept lines of an input.
+fn advice_on<A: Handle + Send + Sync, R: Threads + Sync>(
+    rt: &R,
+    alloc: A,
+    model: &Model<A>,
+    input: &[u8],
+) -> Result<Option<Advice>, AllocError>
+    ensures { IfOk result (λ advice. advice ≡ advice_on model.now (parsed_in (kept_of model.now) input.now).parsed (parsed_in (kept_of model.now) input.now).stop) }
+{
+    let read = read_lines(alloc, &KeptLines { alloc, model }, input)?;
+    match read.stop {
+        Some(_) => Ok(None),
+        None => advice_of(rt, alloc, model, read.parsed.as_slice()),
+    }
+}
+
+/// The suggestion for the kept lines of an input, by the verdict on them. `None` if the model or a line is faulty, or if
+/// there are too many lines. Returns `Err` if memory runs out.
 pub fn advice_for<A: Handle + Send + Sync, R: Threads + Sync>(
     rt: &R,
     alloc: A,
@@ -97,13 +115,5 @@ pub fn advice_for<A: Handle + Send + Sync, R: Threads + Sync>(
         Err(ModelError::Fault(_)) => return Ok(None),
         Err(ModelError::Memory) => return Err(AllocError),
     };
-    let reader = KeptLines {
-        alloc,
-        model: &model,
-    };
-    let read = read_lines(alloc, &reader, input)?;
-    match read.stop {
-        Some(_) => Ok(None),
-        None => advice_of(rt, alloc, &model, read.parsed.as_slice()),
-    }
+    advice_on(rt, alloc, &model, input)
 }

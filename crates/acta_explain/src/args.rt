@@ -1,4 +1,4 @@
-//! What the words of a command line of `explain` ask for.
+//! The command line of `explain`.
 
 use crate::prose::Prose;
 use crate::put;
@@ -12,16 +12,16 @@ use clap::error::ErrorKind;
 use clap::{ArgAction, ArgMatches, Command};
 use std::alloc::{AllocError, Global};
 
-/// What is to be explained.
+/// What to explain.
 #[derive(Drop)]
 pub enum Asked<'a> {
-    /// The lines of the standard input, which are of this kind, on a model.
+    /// The lines of the standard input, of this kind, on a model.
     Lines(LineKind, ModelName<'a>),
-    /// Nothing of a model: this text is the answer.
+    /// No model; this text is the answer.
     Words(String),
 }
 
-// That no entry of the tables has this number or name, and which name was perhaps meant.
+// The text that no entry of the tables has this number or name, with the name that was perhaps meant.
 fn unknown(alloc: Global, tables: &[Table], word: &str) -> Result<String, AllocError> {
     let mut names = Vec::new(alloc);
     for table in tables {
@@ -43,7 +43,7 @@ fn unknown(alloc: Global, tables: &[Table], word: &str) -> Result<String, AllocE
     }
 }
 
-// What the tables say by each of the words.
+// The entries of the tables for each of the words.
 fn words_asked<'a>(
     alloc: Global,
     surface: &mut Command<'_>,
@@ -66,7 +66,7 @@ fn words_asked<'a>(
     Ok(Asked::Words(prose.done()?))
 }
 
-// The kind of the lines of the standard input, by the flags that name one. `None` where several do.
+// The kind of the lines of the standard input, by the flags. `None` if several flags name one.
 fn kind_named(matches: &ArgMatches<'_>) -> Option<LineKind> {
     let flags = (
         matches.get_flag("judge"),
@@ -82,7 +82,7 @@ fn kind_named(matches: &ArgMatches<'_>) -> Option<LineKind> {
     }
 }
 
-// What the matches ask for.
+// Converts the matches.
 fn asked_by<'a>(
     alloc: Global,
     surface: &mut Command<'a>,

@@ -1,4 +1,4 @@
-//! Transactions whose last events are refused, and which of them wait for one another.
+//! Transactions whose last events are refused, and the deadlocks among them.
 
 use crate::lines::LineIndex;
 use crate::phrases::{put_line_text, put_operation};
@@ -10,14 +10,14 @@ use acta_machine::Handle;
 use acta_table::TxnId;
 use std::alloc::AllocError;
 
-// Transactions that wait, in the order of their numbers, and the step of the refused event of each.
+// The waiting transactions, in order of their numbers, and the step of the refused event of each.
 #[derive(Drop)]
 struct Waits<A: Handle> {
     waits: Vec<Wait, A>,
     steps: Vec<usize, A>,
 }
 
-// The transactions that wait, each of which did nothing since its last event was refused.
+// The waiting transactions: those that have done nothing since their last event was refused.
 fn waits_in<A: Handle>(alloc: A, run: &RunTrace<A>) -> Result<Waits<A>, AllocError> {
     let mut found = Waits {
         waits: Vec::new(alloc),
@@ -36,7 +36,7 @@ fn waits_in<A: Handle>(alloc: A, run: &RunTrace<A>) -> Result<Waits<A>, AllocErr
     Ok(found)
 }
 
-// Adds until when the event of a transaction that waits is refused.
+// Adds until when the event of a waiting transaction is refused.
 fn put_until<A: Handle>(prose: Prose<A>, lines: LineIndex<'_, A>, wait: &Wait) -> Prose<A> {
     let next = wait.next.0;
     match wait.until {
@@ -52,7 +52,7 @@ fn put_until<A: Handle>(prose: Prose<A>, lines: LineIndex<'_, A>, wait: &Wait) -
 }
 
 impl<A: Handle> Waits<A> {
-    // Adds a circle: its transactions, each with the one for which it waits, and until when the event of each is refused.
+    // Adds a cycle: its transactions, each with the one for which it waits, and until when the event of each is refused.
     fn put_circle(
         &self,
         prose: Prose<A>,
@@ -84,7 +84,7 @@ impl<A: Handle> Waits<A> {
     }
 }
 
-/// Adds the transactions that wait for one another, in lines after so many spaces.
+/// Adds the deadlocks, in indented lines.
 pub fn put_deadlocks<A: Handle>(
     mut prose: Prose<A>,
     alloc: A,

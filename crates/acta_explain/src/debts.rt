@@ -1,4 +1,4 @@
-//! Whether what is owed can still be paid.
+//! Whether debts can still be paid.
 
 use crate::lines::LineIndex;
 use crate::phrases::{first_named, put_formed_edge, put_standing};
@@ -10,7 +10,7 @@ use acta_machine::{Handle, Machine};
 use acta_script::event_word;
 use acta_table::{Event, Missing, TxnId};
 
-// Adds that the debtor never begins, by the edge of this number.
+// Adds that the edge with this number keeps the owing transaction from ever beginning.
 fn put_lost<A: Handle>(
     prose: Prose<A>,
     machine: &Machine<A>,
@@ -28,7 +28,7 @@ fn put_lost<A: Handle>(
     put_standing(prose, lines, edge.i, machine.status(edge.i)).put(".")
 }
 
-// Adds whether the event that pays would be admitted, or why it is refused, for now or for ever.
+// Adds whether the paying event would be admitted, or why it is refused, for now or for ever.
 fn put_payment<A: Handle>(
     prose: Prose<A>,
     machine: &Machine<A>,
@@ -57,8 +57,8 @@ fn put_payment<A: Handle>(
     }
 }
 
-/// Adds whether a debt of this transaction can be paid now, later or not any more, in lines. `lost` is what `never_begin` of
-/// `acta_hope` says of the machine.
+/// Adds whether a debt of this transaction can be paid now, later or never, in lines. `lost` is the result of
+/// `acta_hope::never_begin` for the machine.
 pub fn put_prospect<A: Handle>(
     prose: Prose<A>,
     machine: &Machine<A>,

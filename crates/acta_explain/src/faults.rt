@@ -1,5 +1,5 @@
-//! What is wrong with a line of an input: where, with which word, what stands there in a good line, and which word was
-//! perhaps meant.
+//! Describes a faulty line of an input: where the fault is, the wrong word, what a good line has there, and the word that
+//! was perhaps meant.
 
 use crate::layout::put_barred;
 use crate::listing::{put_either, put_joined};
@@ -20,7 +20,7 @@ use acta_table::{Dep, Model};
 use acta_words::{Lines, read_u16, word_span};
 use std::alloc::AllocError;
 
-/// What a line should have been.
+/// The form that a line should have.
 #[derive(Clone, Copy, PartialEq, Eq)]
 pub enum LineForm {
     /// An event.
@@ -35,7 +35,7 @@ pub enum LineForm {
     Shell,
 }
 
-/// A line that says nothing, by which a run stops.
+/// A faulty line, which stops a run.
 #[derive(Clone, Copy)]
 pub struct Stop<'a> {
     /// Its number, from 1.
@@ -44,7 +44,7 @@ pub struct Stop<'a> {
     pub bytes: &'a [u8],
     /// The lowest of its faults.
     pub fault: LineFault,
-    /// What it should have been.
+    /// The form that it should have.
     pub form: LineForm,
 }
 
@@ -72,7 +72,7 @@ fn return_words<'a, A: Handle>(alloc: A) -> Result<Vec<&'a str, A>, AllocError> 
     Ok(words)
 }
 
-// The words that would do at a place, as far as they can be listed.
+// The words that are allowed at a place, as far as they can be listed.
 fn known_words<'a, A: Handle>(
     alloc: A,
     model: &'a Model<A>,
@@ -130,8 +130,8 @@ fn known_words<'a, A: Handle>(
     Ok(words)
 }
 
-// A word of the line that is wrong, or the column in which one is missing, and what the line should have been. `is_first`: the
-// wrong word is the line's first.
+// The wrong word of the line, or the column in which a word is missing, and the form that the line should have. `is_first`:
+// the wrong word is the line's first.
 #[derive(Clone, Copy)]
 struct WrongWord<'a> {
     form: LineForm,
@@ -140,8 +140,8 @@ struct WrongWord<'a> {
     word: Option<&'a [u8]>,
 }
 
-// The wrong word of the line at this place. One that is missing has the column behind the word before it, and the
-// first one that of the line's first word.
+// The wrong word of the line at this place. A missing word has the column after the word before it, a missing first word the
+// column of the line's first word.
 fn wrong_word_at<'a>(stop: &Stop<'a>, place: WordPlace) -> WrongWord<'a> {
     let line = stop.bytes;
     let (column, word) = match place {
@@ -159,24 +159,24 @@ fn wrong_word_at<'a>(stop: &Stop<'a>, place: WordPlace) -> WrongWord<'a> {
     }
 }
 
-// What is written where a line ends in a carriage return.
+// The advice if a line ends in a carriage return.
 const CARRIAGE_RETURN: &str =
     "\nthe line ends in CR LF; here a line ends in LF alone, and the CR belongs to the last word";
 
-/// What is written where a word begins with `//`.
+/// The advice if a word begins with `//`.
 pub(crate) const COMMENT: &str = "\na comment begins with `#`";
 
-// What is written where a line of programs or of seated events comes among events.
+// The advice if a line of programs or a seated line is among events.
 const SEAT: &str = "\na line that begins with a seat belongs to `explore` or `drive`";
 
-// What is written where a line of a model comes among events.
+// The advice if a line of a model is among events.
 const MODEL_LINE: &str = "\nthis is a line of a model; the input has events";
 
-// What is written where a word begins with a byte order mark.
+// The advice if a word begins with a byte order mark.
 const BYTE_ORDER_MARK: &str =
     "\nthe word begins with a byte order mark (EF BB BF), which some editors put at the start of a file: save it without one";
 
-// Adds what is expected in the place of the wrong word, where these are the words that would do.
+// Adds what is expected in place of the wrong word; `known` are the words allowed there.
 fn put_expected<A: Handle>(
     prose: Prose<A>,
     wrong: WrongWord<'_>,
@@ -194,7 +194,7 @@ fn put_expected<A: Handle>(
     }
 }
 
-// Adds what a word in this place must be, where these are the words that would do.
+// Adds what a word in this place must be; `known` are the words allowed there.
 fn put_part<A: Handle>(
     prose: Prose<A>,
     wrong: WrongWord<'_>,
@@ -223,8 +223,8 @@ fn put_part<A: Handle>(
     }
 }
 
-// Adds the events where a word is none, and the form of an operation where it is the word of one. A command names a kind
-// of event, and no operation.
+// Adds the events if the wrong word should be one, and the form of an operation if the word is that of one. A command names
+// a kind of event, and no operation.
 fn put_event<A: Handle>(prose: Prose<A>, wrong: WrongWord<'_>, known: &[&str]) -> Prose<A> {
     let Some(word) = wrong.word else {
         return prose.put(match wrong.form {
@@ -246,7 +246,7 @@ fn put_event<A: Handle>(prose: Prose<A>, wrong: WrongWord<'_>, known: &[&str]) -
     }
 }
 
-// Adds the names that would do, if there are any.
+// Adds the names that are allowed, if there are any.
 fn put_names<A: Handle>(prose: Prose<A>, names: &[&str]) -> Prose<A> {
     if names.is_empty() {
         prose
@@ -255,7 +255,7 @@ fn put_names<A: Handle>(prose: Prose<A>, names: &[&str]) -> Prose<A> {
     }
 }
 
-// Adds the wrong word and what is expected in its place, in lines, where these are the words that would do.
+// Adds the wrong word and what is expected in its place, in lines; `known` are the words allowed there.
 fn put_wrong_word<A: Handle>(
     prose: Prose<A>,
     alloc: A,
@@ -297,7 +297,7 @@ fn is_model_word(word: &[u8]) -> bool {
     false
 }
 
-// The advice on a first word that is no event, but begins a line of another input.
+// The advice on a first word that is not an event, but begins a line of another input.
 fn event_advice(word: &[u8]) -> Option<&'static str> {
     if is_seat(word) {
         Some(SEAT)
@@ -308,7 +308,7 @@ fn event_advice(word: &[u8]) -> Option<&'static str> {
     }
 }
 
-// The advice on a first word by which other programs name a command of a session.
+// The advice on a first word that names a command of a session in other programs.
 fn shell_advice(word: &[u8]) -> Option<&'static str> {
     if word == b"exit".as_slice() {
         Some("\ndid you mean `quit`?")
@@ -331,7 +331,7 @@ fn advice_on(wrong: WrongWord<'_>, word: &[u8]) -> Option<&'static str> {
     }
 }
 
-// Adds the advice on a known mistake, or else the hint at the word that was perhaps meant, as a line, if there is one.
+// Adds a line with the advice on a known mistake, otherwise with the word that was perhaps meant, if there is one.
 fn put_advice<A: Handle>(
     prose: Prose<A>,
     alloc: A,
@@ -345,7 +345,7 @@ fn put_advice<A: Handle>(
     }
 }
 
-// What is wrong with the line.
+// Describes the fault of the line.
 fn diagnosis_of<A: Handle>(
     alloc: A,
     model: &Model<A>,
@@ -364,7 +364,7 @@ fn diagnosis_of<A: Handle>(
     }
 }
 
-// The fault of the line and what is wrong with it, in lines.
+// The name of the line's fault and its description, in lines.
 fn stop_text<A: Handle>(
     alloc: A,
     model: &Model<A>,
@@ -376,7 +376,7 @@ fn stop_text<A: Handle>(
     }
 }
 
-/// The fault of the line, and what was found to be wrong with it, in lines.
+/// The name of the line's fault and its description, in lines.
 pub fn fault_text<A: Handle>(
     alloc: A,
     model: &Model<A>,
@@ -389,7 +389,7 @@ pub fn fault_text<A: Handle>(
     put_wrong_word(name, alloc, wrong, found.expected, &known).done()
 }
 
-/// Adds the faulty line, as `run` does, and after it what is wrong with it.
+/// Adds the faulty line, as `run` does, and then its description.
 pub fn put_stop<A: Handle>(
     prose: Prose<A>,
     alloc: A,
@@ -408,12 +408,12 @@ pub fn put_stop<A: Handle>(
     }
 }
 
-/// Adds lines, each behind a bar.
+/// Adds lines, each after a bar.
 pub fn put_lines<A: Handle>(prose: Prose<A>, lines: &str) -> Prose<A> {
     put_barred(prose, 4, lines)
 }
 
-/// Adds the hint at the known word that was perhaps meant, as a line, if there is one.
+/// Adds a line with the known word that was perhaps meant, if there is one.
 pub fn put_hint<A: Handle>(prose: Prose<A>, alloc: A, word: &[u8], known: &[&str]) -> Prose<A> {
     match nearest(alloc, word, known) {
         Ok(Some(meant)) => put!(prose; "\ndid you mean `", meant, "`?"),

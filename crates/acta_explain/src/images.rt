@@ -1,11 +1,11 @@
-//! What is wrong with an image: what the field at fault is, and what it may hold.
+//! Describes a faulty image: the field at fault, and what it may have.
 
 use crate::prose::Prose;
 use crate::put;
 use acta_image::{Field, ImageDiagnostic, ImageFault, diagnose};
 use acta_machine::Handle;
 
-// For each field what it is, and what it may hold.
+// What each field is, and what it may have.
 #[rattlefmt::skip]
 const FIELDS: [(Field, &str, &str); 22] = [
     (Field::Magic, "the magic", "the four bytes `ACTA`"),
@@ -47,7 +47,7 @@ const KINDS: &str =
 const EDGE: &str =
     "two bytes: the code of a kind, 0 to 11, then 0 if the starter depends or 1 if the started does; edges ascend by code, and of one code the starter's comes first";
 
-// What the field is, and what it may hold.
+// What the field is, and what it may have.
 fn field_words(field: Field) -> (&'static str, &'static str) {
     for (known, what, holds) in FIELDS {
         if known == field {
@@ -57,8 +57,7 @@ fn field_words(field: Field) -> (&'static str, &'static str) {
     ("", "")
 }
 
-// Adds the field at fault: its offset, what it is and what it may hold; and of how many bytes the image is, where it
-// ends too early.
+// Adds the field at fault: its offset, what it is and what it may have; and the size of the image, if it ends too early.
 fn put_diagnostic<A: Handle>(prose: Prose<A>, bytes: &[u8], found: ImageDiagnostic) -> Prose<A> {
     if let ImageFault::Model(fault) = found.fault {
         return put!(prose; ": all fields are valid, but the model has a fault\n", fault.name(),
@@ -78,7 +77,7 @@ fn put_diagnostic<A: Handle>(prose: Prose<A>, bytes: &[u8], found: ImageDiagnost
     }
 }
 
-/// Adds where and what is wrong with the image.
+/// Adds the description of the image's fault.
 pub fn put_image_fault<A: Handle>(prose: Prose<A>, alloc: A, bytes: &[u8]) -> Prose<A> {
     match diagnose(alloc, bytes) {
         Ok(Some(found)) => put_diagnostic(prose, bytes, found),

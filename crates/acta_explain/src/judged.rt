@@ -1,5 +1,5 @@
-//! The verdict on kept lines, in words: each fault with its axiom, its line and what breaks the axiom there, and
-//! then what is owed.
+//! The verdict on kept lines, in words: each fault with its axiom, its line and what breaks the axiom there, and then the
+//! debts.
 
 ghost use Rattle.std.specs.Prelude.{◌≡◌, ◌≤◌, length, nat_lt, true, IfOk};
 ghost use Rattle.acta_script.specs.Reading.{kept_of};
@@ -8,7 +8,7 @@ ghost use Rattle.acta_io.specs.Refusals.{refuses_kept_on};
 ghost use Rattle.acta_io.specs.Input.{parsed_in};
 
 use crate::faults::{LineForm, Stop, put_lines, put_stop};
-use crate::lines::{LineIndex, LineText, NonBlankLine, StepText, non_blank_lines};
+use crate::lines::{LineIndex, LineText, StepText};
 use crate::phrases::{
     class_at, put_formed_edge, put_line, put_line_text, put_may, put_operation, put_return,
     put_starts,
@@ -17,7 +17,7 @@ use crate::prose::{Prose, report_of};
 use crate::put;
 use crate::run_trace::MOST_RENDERED;
 use acta_axioms::{Axiom, Fault, Walk};
-use acta_io::{KeptLines, Report, read_lines};
+use acta_io::{KeptLines, NonBlankLine, Report, read_lines};
 use acta_judge::{Verdict, judge};
 use acta_machine::Handle;
 use acta_objects::form_fault;
@@ -27,7 +27,7 @@ use acta_trace::{Step, Steps};
 use std::alloc::AllocError;
 use std::thread::Threads;
 
-// A list of kept items, with what its places formed and what its operations should have returned.
+// A list of kept items, with what its places formed and the returns that were due.
 #[derive(Drop)]
 struct Scene<'a, A: Handle> {
     alloc: A,
@@ -39,14 +39,14 @@ struct Scene<'a, A: Handle> {
     due: Vec<Due, A>,
 }
 
-// What the operation at a place should have returned.
+// The return due of the operation at a place.
 #[derive(Clone, Copy)]
 struct Due {
     place: u32,
     ret: Option<Ret>,
 }
 
-// Whether an operation at this place doesn't return what is due.
+// Whether an operation at this place does not have the return due.
 fn is_off(faults: &[Fault], place: u32) -> bool {
     let at = faults.partition_point(|fault| {
         fault.broken < Axiom::Return || fault.broken == Axiom::Return && fault.place < place
@@ -57,7 +57,7 @@ fn is_off(faults: &[Fault], place: u32) -> bool {
     }
 }
 
-// What the operation that a walk comes to next should return.
+// The return due of the operation at the walk's next place.
 fn due_next<A: Handle>(walk: &Walk<'_, A>) -> Result<Option<Ret>, AllocError> {
     match walk.next() {
         Some(
@@ -70,7 +70,7 @@ fn due_next<A: Handle>(walk: &Walk<'_, A>) -> Result<Option<Ret>, AllocError> {
     }
 }
 
-// Goes along the list, whose items these lines say.
+// Walks through the list; `lines` has the line of each item.
 fn scene_of<'a, A: Handle>(
     alloc: A,
     model: &'a Model<A>,
@@ -105,7 +105,8 @@ fn scene_of<'a, A: Handle>(
 }
 
 impl<'a, A: Handle> Scene<'a, A> {
-    // Adds the item of a place, up to which there are so many operations. The walk goes on to the next place.
+    // Adds the item of a place, and advances the walk to the next place. `operations` is the number of operations
+    // up to the place.
     fn add(
         &mut self,
         item: &Kept<A>,
@@ -157,7 +158,7 @@ impl<'a, A: Handle> Scene<'a, A> {
         self.lines().at((place as usize).checked_sub(1)?)
     }
 
-    // Adds a transaction, with the lines by which it first began and ended.
+    // Adds a transaction, with the lines of its first begin and end.
     fn put_txn(&self, prose: Prose<A>, number: u64) -> Prose<A> {
         let prose = put!(prose; "transaction ", number);
         if number == 0 || number > LAST_TXN as u64 {
@@ -174,7 +175,7 @@ impl<'a, A: Handle> Scene<'a, A> {
         }
     }
 
-    // Adds what the operation of a place returns, and should.
+    // Adds the return of a place's operation, and the return due.
     fn put_off(&self, prose: Prose<A>, fault: &Fault) -> Prose<A> {
         if fault.by == 0 {
             return prose.put("a return of an event that is no operation");
@@ -202,7 +203,7 @@ impl<'a, A: Handle> Scene<'a, A> {
         }
     }
 
-    // Adds what is wrong with the form of an event, by the rule on it that it breaks.
+    // Adds what is wrong with the form of an event: the rule on forms that it breaks.
     fn put_form(&self, prose: Prose<A>, event: &Event<A>) -> Prose<A> {
         match form_fault(self.walk.model(), event) {
             Some(fault) => {
@@ -221,7 +222,7 @@ impl<'a, A: Handle> Scene<'a, A> {
         }
     }
 
-    // Adds what the classes allow that the event is of.
+    // Adds what the classes of the event's transactions allow.
     fn put_allowed(&self, prose: Prose<A>, event: &Event<A>) -> Prose<A> {
         let prose = match class_at(self.walk.model(), event.class()) {
             Some(class) => put_starts(prose.put("\n"), class).put("`"),
@@ -237,7 +238,7 @@ impl<'a, A: Handle> Scene<'a, A> {
         }
     }
 
-    // Adds the words of a fault, in lines.
+    // Adds the description of a fault, in lines.
     fn put_fault_words(&self, prose: Prose<A>, fault: &Fault) -> Prose<A> {
         let prose = prose.put(fault.broken.name());
         let prose = match self.at(fault.place) {
@@ -253,7 +254,7 @@ impl<'a, A: Handle> Scene<'a, A> {
         put!(prose; "\n", fault.broken.sentence())
     }
 
-    // Adds a fault of a verdict, and its words.
+    // Adds a fault of a verdict, and its description.
     fn put_fault(&self, prose: Prose<A>, fault: &Fault) -> Prose<A> {
         let line = fault_line(self.alloc, fault.broken.number(), fault.place, fault.by);
         let prose = put_line(prose, line).put("\n");
@@ -263,7 +264,7 @@ impl<'a, A: Handle> Scene<'a, A> {
         }
     }
 
-    // Adds a debt, and by which edge it is owed.
+    // Adds a debt, and its edge.
     fn put_debt(&self, prose: Prose<A>, owed: &Owed) -> Prose<A> {
         let prose = put_line(prose, owed_line(self.alloc, owed)).put("  by ");
         put_formed_edge(prose, self.lines(), owed.edge.0).put("\n")
@@ -291,7 +292,7 @@ impl<'a, A: Handle> Scene<'a, A> {
     }
 }
 
-// What is written if there are too many lines.
+// The report if there are too many lines.
 fn too_long<A: Handle>(alloc: A) -> Result<Report<A>, AllocError>
     ensures { IfOk result (λ report. report.is_refused ≡ true) }
 {
@@ -302,35 +303,34 @@ fn too_long<A: Handle>(alloc: A) -> Result<Report<A>, AllocError>
     report_of(prose, true)
 }
 
-// What is written of a line that is faulty.
+// The report on a faulty line.
 fn stopped<A: Handle>(alloc: A, model: &Model<A>, stop: &Stop<'_>) -> Result<Report<A>, AllocError>
     ensures { IfOk result (λ report. report.is_refused ≡ true) }
 {
     report_of(put_stop(Prose::new(alloc), alloc, model, stop), true)
 }
 
-// The verdict on kept items, in words. The lines of the input say the items.
+// The verdict on kept items, each with its line, in words.
 fn verdict_text<A: Handle>(
     alloc: A,
     model: &Model<A>,
     kept: &[Kept<A>],
-    input: &[u8],
+    lines: &[NonBlankLine<'_>],
     verdict: &Verdict<A>,
 ) -> Result<Prose<A>, AllocError>
     requires { length kept.now ≤ MOST_EVENTS }
 {
-    let lines = non_blank_lines(alloc, input)?;
-    let scene = scene_of(alloc, model, kept, &lines, verdict.faults.as_slice())?;
+    let scene = scene_of(alloc, model, kept, lines, verdict.faults.as_slice())?;
     Ok(scene.put_verdict(Prose::new(alloc), verdict))
 }
 
-// What is written of kept items, which the lines of the input say.
+// The report on kept items, each with its line.
 fn explain_kept<A: Handle + Send + Sync, R: Threads + Sync>(
     rt: &R,
     alloc: A,
     model: &Model<A>,
     kept: &[Kept<A>],
-    input: &[u8],
+    lines: &[NonBlankLine<'_>],
 ) -> Result<Report<A>, AllocError>
     ensures { IfOk result (λ report. report.is_refused ≡ nat_lt MOST_EVENTS (length kept.now)) }
 {
@@ -338,12 +338,12 @@ fn explain_kept<A: Handle + Send + Sync, R: Threads + Sync>(
         return too_long(alloc);
     }
     match judge(rt, alloc, model, kept) {
-        Ok(verdict) => report_of(verdict_text(alloc, model, kept, input, &verdict)?, false),
+        Ok(verdict) => report_of(verdict_text(alloc, model, kept, lines, &verdict)?, false),
         Err(_) => Err(AllocError),
     }
 }
 
-/// What is written of the kept lines of the input, which is refused where `judge` refuses it.
+/// The report on the kept lines of the input. It refuses the input if `judge` does.
 pub fn explain_judged<A: Handle + Send + Sync, R: Threads + Sync>(
     rt: &R,
     alloc: A,
@@ -355,6 +355,12 @@ pub fn explain_judged<A: Handle + Send + Sync, R: Threads + Sync>(
     let read = read_lines(alloc, &KeptLines { alloc, model }, input)?;
     match read.stop {
         Some(bad) => stopped(alloc, model, &Stop::of(input, bad, LineForm::Kept)),
-        None => explain_kept(rt, alloc, model, read.parsed.as_slice(), input),
+        None => explain_kept(
+            rt,
+            alloc,
+            model,
+            read.parsed.as_slice(),
+            read.lines.as_slice(),
+        ),
     }
 }

@@ -1,4 +1,4 @@
-//! How the steps of a run are laid out: the number of the line, the event, the answer and what it formed, in columns.
+//! The layout of a run's steps: the number of the line, the event, the answer and what it formed, in columns.
 
 use crate::prose::Prose;
 use crate::put;
@@ -12,17 +12,17 @@ pub struct Columns {
     answer: usize,
 }
 
-// A column is at least so wide, and grows with what it has, up to so much: what is longer stands out.
+// The least and the greatest width of a column; longer texts stick out.
 const NUMBER: (usize, usize) = (4, 9);
 
 const EVENT: (usize, usize) = (12, 32);
 
 const ANSWER: (usize, usize) = (8, 20);
 
-// The width of a debt at least.
+// The least width of a debt.
 const DEBT: usize = 18;
 
-// The width that a column has where something in it is this long.
+// The width of a column that also has a text of this length.
 fn widened(width: usize, most: usize, length: usize) -> usize {
     if length > most {
         width
@@ -40,7 +40,7 @@ pub fn digits(number: usize) -> usize {
 }
 
 impl Columns {
-    /// Columns for no rows.
+    /// Columns without rows.
     pub fn new() -> Columns {
         Columns {
             number: NUMBER.0,
@@ -49,7 +49,7 @@ impl Columns {
         }
     }
 
-    /// The columns with room for a row whose line has this number, and whose event and answer are so long.
+    /// The columns with room for a row with this line number, and an event and an answer of these lengths.
     pub fn with(self, line: usize, event: usize, answer: usize) -> Columns {
         Columns {
             number: widened(self.number, NUMBER.1, digits(line)),
@@ -58,7 +58,7 @@ impl Columns {
         }
     }
 
-    /// How far in the lines are that follow a row.
+    /// The indentation of the lines below a row.
     pub fn indent(self) -> usize {
         self.number.saturating_add(4)
     }
@@ -81,14 +81,14 @@ impl Columns {
         }
     }
 
-    /// Adds a debt below the events. By what it is owed comes next.
+    /// Adds a debt below the events; its edge follows.
     pub fn put_debt<A: Allocator>(self, prose: Prose<A>, debt: &str) -> Prose<A> {
         let prose = prose.pad(self.number.saturating_add(2));
         put_cell(prose, debt, self.event.max(DEBT))
     }
 }
 
-// Adds a text, and spaces up to this width, and two more.
+// Adds a text padded to this width, and two more spaces.
 fn put_cell<A: Allocator>(prose: Prose<A>, cell: &str, width: usize) -> Prose<A> {
     prose
         .put(cell)
@@ -96,7 +96,7 @@ fn put_cell<A: Allocator>(prose: Prose<A>, cell: &str, width: usize) -> Prose<A>
         .put("  ")
 }
 
-/// Adds lines, each behind so many spaces and a bar.
+/// Adds lines, each after an indentation and a bar.
 pub fn put_barred<A: Allocator>(mut prose: Prose<A>, indent: usize, lines: &str) -> Prose<A> {
     for line in lines.lines() {
         prose = put!(prose.pad(indent); "| ", line, "\n");

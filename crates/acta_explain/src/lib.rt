@@ -1,10 +1,12 @@
-//! The runs of histories, in words. For each event there is its answer, and what it formed or why it is refused:
-//! the rule, what of the machine breaks it, and what has to be so before it can be admitted. For a faulty line, text or
-//! image there is where the fault is, what stands there in a good one, and which word was perhaps meant. And each rule,
+//! Explains runs and histories in words. Each event is shown with its answer, and with what it formed or why it is refused:
+//! the rule, what breaks it, and what must happen before the event can be admitted. For a faulty line, text or image the
+//! explanation says where the fault is, what a good one has there, and which word was perhaps meant. Each rule, axiom and
+//! code is explained by name.
 //! axiom and code is explained by its name.
 //!
-//! Nothing here decides anything: what is admitted, why an event is refused, what hope there is and what a history lacks is
-//! asked of the layers below, and is put into sentences. A call that allocates returns `Err` if memory runs out.
+//! This crate decides nothing: the crates below say what is admitted, why an event is refused, whether there is hope and
+//! what is wrong with a history, and this one puts it into sentences. A call that allocates returns `Err` if memory runs
+//! out.
 #![tactic(auto)]
 
 mod advice;
@@ -32,7 +34,7 @@ pub use args::{Asked, ExplainLine};
 pub use debts::put_prospect;
 pub use faults::{LineForm, Stop, fault_text, put_stop};
 pub use layout::{digits, put_barred};
-pub use lines::{LineIndex, NonBlankLine, StepText, non_blank_lines};
+pub use lines::{LineIndex, StepText, put_words};
 pub use listing::{first_listed, put_more};
 pub use phrases::{
     allowing_word, class_at, first_named, name_text, put_edges, put_formed_edge, put_lacking,

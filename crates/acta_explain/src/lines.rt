@@ -1,56 +1,30 @@
-//! The lines of an input that have words, and the lines to which a sentence refers: those of an operation, of an edge, or of the
-//! event that began or ended a transaction.
+//! The words of lines, and the lines to which a sentence refers: that of an operation, of an edge, or of the event that
+//! began or ended a transaction.
 
 use crate::phrases::name_text;
 use crate::prose::Prose;
 use crate::put;
+use acta_io::NonBlankLine;
 use acta_machine::Handle;
 use acta_table::{Edge, OpNo, TxnId};
 use acta_trace::Steps;
-use acta_words::{Lines, has_words, words_of};
-use std::alloc::{AllocError, Allocator};
+use acta_words::words_of;
+use std::alloc::AllocError;
 
-/// A line of an input that has words.
-#[derive(Clone, Copy)]
-pub struct NonBlankLine<'a> {
-    /// Its number, from 1.
-    pub line: usize,
-    /// Its bytes.
-    pub bytes: &'a [u8],
-}
-
-/// The lines of the input that have words, in order.
-pub fn non_blank_lines<'a, A: Allocator>(
-    alloc: A,
-    input: &'a [u8],
-) -> Result<Vec<NonBlankLine<'a>, A>, AllocError> {
-    let mut found = Vec::new(alloc);
-    let mut line = 0usize;
-    for bytes in Lines::of(input) {
-        line = line.saturating_add(1);
-        if has_words(bytes) {
-            found.push(NonBlankLine { line, bytes })?;
-        }
+/// Adds the words of a line, with single spaces between them.
+pub fn put_words<A: Handle>(mut prose: Prose<A>, alloc: A, line: &[u8]) -> Prose<A> {
+    let Ok(words) = words_of(alloc, line) else {
+        return prose.fail();
+    };
+    let mut gap = "";
+    for word in words.iter() {
+        prose = put!(prose; gap, name_text(word));
+        gap = " ";
     }
-    Ok(found)
+    prose
 }
 
-impl<'a> NonBlankLine<'a> {
-    /// Adds its words, with single spaces between them.
-    pub fn put_words<A: Handle>(self, mut prose: Prose<A>, alloc: A) -> Prose<A> {
-        let Ok(words) = words_of(alloc, self.bytes) else {
-            return prose.fail();
-        };
-        let mut gap = "";
-        for word in words.iter() {
-            prose = put!(prose; gap, name_text(word));
-            gap = " ";
-        }
-        prose
-    }
-}
-
-/// The words of a step: its event as the input has it, and why it is refused, in lines.
+/// The words of a step: its event as written in the input, and why it is refused, in lines.
 #[derive(Drop)]
 pub struct StepText<A: Handle> {
     pub event: String<A>,
@@ -58,13 +32,13 @@ pub struct StepText<A: Handle> {
 }
 
 impl<A: Handle> StepText<A> {
-    /// The words of the step that a line says, with the reason for which it is refused.
+    /// The words of the step of a line, with the reason for its refusal.
     pub fn of(
         alloc: A,
         line: NonBlankLine<'_>,
         reason: String<A>,
     ) -> Result<StepText<A>, AllocError> {
-        let event = line.put_words(Prose::new(alloc), alloc).done()?;
+        let event = put_words(Prose::new(alloc), alloc, line.bytes).done()?;
         Ok(StepText { event, reason })
     }
 }
@@ -72,18 +46,18 @@ impl<A: Handle> StepText<A> {
 /// A line to which a sentence refers.
 #[derive(Clone, Copy)]
 pub struct LineText<'a> {
-    /// What it is called: a line of an input, or an event of a session.
+    /// Its noun: a line of an input, or an event of a session.
     pub noun: &'static str,
     /// Its number, from 1.
     pub line: usize,
-    /// Its event as the input has it.
+    /// Its event as written in the input.
     pub event: &'a str,
 }
 
 /// Steps, each with its words, and the edges that they formed.
 #[derive(Clone, Copy)]
 pub struct LineIndex<'a, A: Handle> {
-    /// What a step is called in a sentence.
+    /// The noun for a step in a sentence.
     pub noun: &'static str,
     pub steps: &'a Steps<A>,
     pub texts: &'a [StepText<A>],

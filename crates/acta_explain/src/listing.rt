@@ -5,15 +5,15 @@ use crate::put;
 use acta_table::{OpNo, TxnId};
 use std::alloc::Allocator;
 
-/// The most items of a list that are named one by one.
+/// The most items of a list that are named.
 pub const MOST_LISTED: usize = 12;
 
-/// The first items of a list, which are named one by one.
+/// The first items of a list, those that are named.
 pub fn first_listed<T>(items: &[T]) -> &[T] {
     items.get(..MOST_LISTED).unwrap_or(items)
 }
 
-/// Adds the words, with this between each two.
+/// Adds the words, separated by `gap`.
 pub fn put_joined<A: Allocator>(mut prose: Prose<A>, words: &[&str], gap: &str) -> Prose<A> {
     let mut before = "";
     for word in words {
@@ -42,7 +42,7 @@ pub fn put_operations<A: Allocator>(mut prose: Prose<A>, ops: &[OpNo]) -> Prose<
     put_more(prose, " and ", ops.len())
 }
 
-/// Adds a chain of transactions, with an arrow from each to the next; of a long one the front, and its length.
+/// Adds a chain of transactions, with arrows between them; of a long one the front, and its length.
 pub fn put_chain<A: Allocator>(mut prose: Prose<A>, txns: &[TxnId]) -> Prose<A> {
     let mut gap = "";
     for txn in first_listed(txns) {
@@ -52,7 +52,7 @@ pub fn put_chain<A: Allocator>(mut prose: Prose<A>, txns: &[TxnId]) -> Prose<A> 
     put_more(prose, " -> .. and ", txns.len())
 }
 
-/// Adds how many more items a list has than are named, if it has more.
+/// Adds how many items of the list are not named, if any.
 pub fn put_more<A: Allocator>(prose: Prose<A>, front: &str, items: usize) -> Prose<A> {
     if items > MOST_LISTED {
         put!(prose; front, items - MOST_LISTED, " more")

@@ -18,7 +18,7 @@ pub fn name_text(name: &[u8]) -> &str {
     std::str::from_utf8(name).unwrap_or("?")
 }
 
-/// The word by which a class allows events of this kind, in its `starts` or its `may`.
+/// The word by which a class allows events of this kind, in its `starts` or `may` line.
 pub fn allowing_word(kind: EventKind) -> &'static str {
     match kind {
         EventKind::Operate => "operate",
@@ -40,7 +40,7 @@ fn operation_kind(op: Op) -> OpKind {
     }
 }
 
-// What an object of the kind is, and which operations it has.
+// What an object of the kind is, and its operations.
 fn kind_words(kind: Kind) -> (&'static str, &'static str) {
     match kind {
         Kind::Register(_) => ("a register", "`read` and `write`"),
@@ -78,7 +78,7 @@ pub fn put_return<A: Allocator>(prose: Prose<A>, ret: Ret) -> Prose<A> {
     }
 }
 
-/// Adds the `may` line of the class of this transaction, and no quote after it.
+/// Adds the `may` line of this transaction's class, without the closing quote.
 pub fn put_may<A: Allocator>(prose: Prose<A>, class: &Class<A>, t: TxnId) -> Prose<A> {
     let name = name_text(class.name.as_slice());
     let mut prose = put!(prose; "class `", name, "` of ", t.0, " has `may");
@@ -91,7 +91,7 @@ pub fn put_may<A: Allocator>(prose: Prose<A>, class: &Class<A>, t: TxnId) -> Pro
     prose
 }
 
-/// Adds the `starts` line of a class, and no quote after it.
+/// Adds the `starts` line of a class, without the closing quote.
 pub fn put_starts<A: Allocator>(prose: Prose<A>, class: &Class<A>) -> Prose<A> {
     let begin = if class.starts.begin { " begin" } else { "" };
     let spawned = if class.starts.spawned { " spawned" } else { "" };
@@ -100,7 +100,7 @@ pub fn put_starts<A: Allocator>(prose: Prose<A>, class: &Class<A>) -> Prose<A> {
     put!(prose; "class `", name, "` has `starts", begin, spawned, split)
 }
 
-// How a transaction stands.
+// The status of a transaction, in words.
 fn status_words(status: Status) -> &'static str {
     match status {
         Status::NotBegun => "has not begun",
@@ -111,12 +111,12 @@ fn status_words(status: Status) -> &'static str {
     }
 }
 
-/// Adds an edge in words: its kind, the one that depends, and the one on which it depends.
+/// Adds an edge in words: its kind, the dependent transaction, and the one on which it depends.
 pub fn put_edge<A: Allocator>(prose: Prose<A>, edge: &Edge) -> Prose<A> {
     put!(prose; edge.kind.word(), " ", edge.j.0, " on ", edge.i.0)
 }
 
-/// Adds a line, as a sentence refers to it: its number, and its event, cut off if it is long.
+/// Adds a line as sentences refer to it: its number and its event, shortened if it is long.
 pub fn put_line_text<A: Allocator>(prose: Prose<A>, line: LineText<'_>) -> Prose<A> {
     let prose = put!(prose; line.noun, " ", line.line, ": ");
     match line.event.char_indices().nth(MOST_OF_EVENT) {
@@ -125,7 +125,7 @@ pub fn put_line_text<A: Allocator>(prose: Prose<A>, line: LineText<'_>) -> Prose
     }
 }
 
-/// Adds how the transaction stands, with the line by which it ended.
+/// Adds the status of the transaction, with the line that ended it.
 pub fn put_standing<A: Handle>(
     prose: Prose<A>,
     lines: LineIndex<'_, A>,
@@ -141,7 +141,7 @@ pub fn put_standing<A: Handle>(
     }
 }
 
-/// Adds the operation of this number, with the line by which it was done.
+/// Adds the operation with this number, with its line.
 pub fn put_operation<A: Handle>(prose: Prose<A>, lines: LineIndex<'_, A>, op: OpNo) -> Prose<A> {
     let prose = put!(prose; "operation ", op.0);
     match lines.operation(op) {
@@ -155,7 +155,7 @@ pub fn put_numbered_edge<A: Allocator>(prose: Prose<A>, number: u64, edge: &Edge
     put_edge(put!(prose; "edge ", number, " ("), edge).put(")")
 }
 
-/// Adds the edge of this number, with the line by which it was formed.
+/// Adds the edge with this number, with the line that formed it.
 pub fn put_formed_edge<A: Handle>(
     prose: Prose<A>,
     lines: LineIndex<'_, A>,
@@ -171,7 +171,7 @@ pub fn put_formed_edge<A: Handle>(
     }
 }
 
-/// Adds the edges that follow so many others, each with its number; of a long list the first, and how many more there are.
+/// Adds these edges, numbered after the first `before`: at most `most` of them, and how many more there are.
 pub fn put_edges<A: Allocator>(
     mut prose: Prose<A>,
     before: usize,
@@ -192,12 +192,12 @@ pub fn put_edges<A: Allocator>(
     }
 }
 
-/// The class of this number, if there is one.
+/// The class with this number, if there is one.
 pub fn class_at<A: Allocator>(model: &Model<A>, class: Option<ClassId>) -> Option<&Class<A>> {
     model.class(class?)
 }
 
-/// The one that the event starts, that depends by it or that does it: the first that it names.
+/// The first transaction that the event names: the one that it starts, that depends by it or that does it.
 pub fn first_named<A: Allocator>(event: &Event<A>) -> TxnId {
     match event {
         Event::Begin(t, _)
@@ -213,7 +213,7 @@ pub fn first_named<A: Allocator>(event: &Event<A>) -> TxnId {
     }
 }
 
-/// Adds a line of the program, which is there where memory was.
+/// Adds a line that another function wrote, unless memory ran out.
 pub fn put_line<A: Allocator>(prose: Prose<A>, line: Result<Vec<u8, A>, AllocError>) -> Prose<A> {
     match line {
         Ok(line) => prose.put(name_text(line.as_slice())),

@@ -1,5 +1,5 @@
-//! A text that is put together piece by piece. It remembers that memory ran out, so whoever writes a sentence has no way
-//! out at each piece, where the text so far would be dropped.
+//! A text that is built piece by piece. It records whether memory ran out, so that building a sentence needs no early return
+//! at each piece.
 
 ghost use Rattle.std.specs.Prelude.{◌≡◌, IfOk};
 
@@ -31,7 +31,7 @@ impl<A: Allocator> Prose<A> {
         self
     }
 
-    /// Adds so many spaces.
+    /// Adds this many spaces.
     pub fn pad(mut self, count: usize) -> Prose<A> {
         for _ in 0..count {
             self = self.put(' ');
@@ -39,14 +39,14 @@ impl<A: Allocator> Prose<A> {
         self
     }
 
-    /// Adds a text that was put together apart.
+    /// Adds a text that was built separately.
     pub fn add(self, other: Prose<A>) -> Prose<A> {
         let (text, has_failed) = other.parts();
         let prose = self.put(text.as_str());
         if has_failed { prose.fail() } else { prose }
     }
 
-    /// Notes that memory ran out for a piece.
+    /// Records that memory ran out.
     pub fn fail(mut self) -> Prose<A> {
         self.has_failed = true;
         self
@@ -63,7 +63,7 @@ impl<A: Allocator> Prose<A> {
         (text, has_failed)
     }
 
-    /// The text. `Err` where memory ran out for a piece of it.
+    /// The text. Returns `Err` if memory ran out for a piece of it.
     pub fn done(self) -> Result<String<A>, AllocError> {
         let Prose { text, has_failed } = self;
         if has_failed {
@@ -74,7 +74,7 @@ impl<A: Allocator> Prose<A> {
     }
 }
 
-/// The text as a report, which says whether the input is refused.
+/// The text as a report that refuses the input or not.
 pub fn report_of<A: Allocator>(prose: Prose<A>, is_refused: bool) -> Result<Report<A>, AllocError>
     ensures { IfOk result (λ report. report.is_refused ≡ is_refused) }
 {

@@ -1,5 +1,5 @@
-//! Why an event is refused, in words: the rule, what of the machine breaks it, and what hope there is. A reason is one line
-//! or a few, with line feeds between them.
+//! Why an event is refused, in words: the rule, what breaks it, and what hope there is. A reason is one or more lines,
+//! separated by line feeds.
 
 use crate::lines::LineIndex;
 use crate::listing::{put_chain, put_operations};
@@ -22,8 +22,8 @@ pub struct Refused<'a, A: Handle> {
     pub event: &'a Event<A>,
 }
 
-// Of an event of this kind: what a transaction does that names itself, what happens to its partner, and how a transaction
-// starts by it.
+// Phrases for an event of this kind: what a transaction does that names itself, what happens to its partner, and how a
+// transaction starts by it.
 fn kind_phrases(kind: EventKind) -> (&'static str, &'static str, &'static str) {
     match kind {
         EventKind::Spawn => ("spawns itself", "", "by being spawned"),
@@ -35,7 +35,8 @@ fn kind_phrases(kind: EventKind) -> (&'static str, &'static str, &'static str) {
     }
 }
 
-// By an edge of this kind: what of the transaction on which the other depends has it owe something, and what it then owes.
+// Phrases for an edge of this kind: what the other transaction does that makes the dependent one owe something, and what it
+// then owes.
 fn debt_phrases(kind: Dep) -> (&'static str, &'static str) {
     match kind {
         Dep::Scd => ("a commit", "a commit"),
@@ -45,7 +46,7 @@ fn debt_phrases(kind: Dep) -> (&'static str, &'static str) {
     }
 }
 
-// The ways in which the holder of an operation can let it go.
+// The ways in which a holder can release an operation.
 const RELEASES: [Release; 5] = [
     Release::Commit,
     Release::Abort,
@@ -54,7 +55,7 @@ const RELEASES: [Release; 5] = [
     Release::Permit,
 ];
 
-// Adds what the holder of an operation on the object does so that it lets it go for `t`.
+// Adds what the holder of an operation on the object does to release it for `t`.
 fn put_release<A: Handle>(prose: Prose<A>, release: Release, t: TxnId, object: &str) -> Prose<A> {
     match release {
         Release::Commit => prose.put("commits"),
@@ -65,7 +66,7 @@ fn put_release<A: Handle>(prose: Prose<A>, release: Release, t: TxnId, object: &
     }
 }
 
-// Adds why the set of a delegation or a split is bad: it names an operation of this number, where there are so many.
+// Adds why the set of a delegation or a split is bad: it names this operation, though there are only `operations` of them.
 fn put_bad_set<A: Handle>(prose: Prose<A>, number: OpNo, operations: usize) -> Prose<A> {
     let number = number.0;
     let prose = put!(prose; "BadSet: there is no operation ", number);
@@ -78,7 +79,7 @@ fn put_bad_set<A: Handle>(prose: Prose<A>, number: OpNo, operations: usize) -> P
     }
 }
 
-// Adds for which transactions the one that depends waits, where an edge blocks its end and some wait for one another.
+// Adds the chain of transactions for which the dependent one waits, if an edge blocks its end and the chain has a cycle.
 fn put_waits_of<A: Handle>(prose: Prose<A>, machine: &Machine<A>, reason: &Reason) -> Prose<A> {
     let Reason::Blocked(blocking_edge) = reason else {
         return prose;
@@ -93,7 +94,7 @@ fn put_waits_of<A: Handle>(prose: Prose<A>, machine: &Machine<A>, reason: &Reaso
     }
 }
 
-// Adds that these wait for one another.
+// Adds that these wait for each other.
 fn put_closed<A: Handle>(prose: Prose<A>, waits: &[TxnId]) -> Prose<A> {
     let (front, these) = if waits.first() == waits.last() {
         ("\nThese transactions wait for one another: ", "them")
@@ -108,8 +109,8 @@ fn put_closed<A: Handle>(prose: Prose<A>, waits: &[TxnId]) -> Prose<A> {
 }
 
 impl<'a, A: Handle> Refused<'a, A> {
-    /// Adds why it is refused, and what hope there is. Whether it is looked for transactions that wait for one another, which
-    /// takes a look at each edge, is for the caller to say.
+    /// Adds why the event is refused, and what hope there is. With `looks_for_waits`, transactions that wait for each other
+    /// are searched for, which visits each edge.
     pub fn put_reason(
         &self,
         prose: Prose<A>,
@@ -137,7 +138,7 @@ impl<'a, A: Handle> Refused<'a, A> {
         }
     }
 
-    // Adds what hope there is, as a line of its own; nothing where nothing is known.
+    // Adds what hope there is, as a line of its own; nothing if it is unknown.
     fn put_hope(&self, prose: Prose<A>, hope: Hope) -> Prose<A> {
         let when = "\nIt can be admitted only when ";
         match hope {
@@ -161,7 +162,7 @@ impl<'a, A: Handle> Refused<'a, A> {
         }
     }
 
-    /// Adds why it is refused, but not what hope there is.
+    /// Adds why the event is refused, without the hope.
     pub fn put_facts(&self, prose: Prose<A>, reason: &Reason) -> Prose<A> {
         match *reason {
             Reason::Full => {
@@ -207,7 +208,7 @@ impl<'a, A: Handle> Refused<'a, A> {
         self.put_stands(prose, parent, status).put(".")
     }
 
-    // Adds how a transaction stands.
+    // Adds the status of a transaction.
     fn put_stands(&self, prose: Prose<A>, t: TxnId, status: Status) -> Prose<A> {
         put_standing(put!(prose; t.0, " "), self.lines, t, status)
     }
@@ -217,7 +218,7 @@ impl<'a, A: Handle> Refused<'a, A> {
         class_at(self.machine.model(), self.machine.class(t))
     }
 
-    // Adds the name of the class of the transaction that does the event, the quote after it, and of whom it is the class.
+    // Adds the class of the acting transaction in quotes, and whose class it is.
     fn put_class(&self, prose: Prose<A>) -> Prose<A> {
         let t = first_named(self.event);
         let name = match self.class_of(t) {
@@ -301,7 +302,7 @@ impl<'a, A: Handle> Refused<'a, A> {
         put!(prose; " is ", ended, ", and ", t, " can hand over only operations that it holds in progress.")
     }
 
-    // Adds what has to be named.
+    // Adds which operations have to be named.
     fn put_whole(&self, prose: Prose<A>) -> Prose<A> {
         let t = first_named(self.event);
         let prose = put!(prose; "\n", t.0, " holds these operations in progress: ");
@@ -338,7 +339,7 @@ impl<'a, A: Handle> Refused<'a, A> {
 
 // Conflicts.
 impl<'a, A: Handle> Refused<'a, A> {
-    // Adds why an operation that conflicts refuses the event.
+    // Adds why a conflict refuses the event.
     fn put_policy(&self, prose: Prose<A>, holder: TxnId) -> Prose<A> {
         let prose = self
             .put_class(prose.put("\nClass `"))
@@ -350,7 +351,7 @@ impl<'a, A: Handle> Refused<'a, A> {
         }
     }
 
-    // Adds what the holder of an operation can do so that the operation no longer blocks the event.
+    // Adds what the holder can do so that the operation no longer blocks the event.
     fn put_releases(&self, prose: Prose<A>, number: OpNo) -> Prose<A> {
         let Some(op) = operation_at(self.machine, number) else {
             return prose;
@@ -376,7 +377,7 @@ impl<'a, A: Handle> Refused<'a, A> {
         prose
     }
 
-    // Adds who holds the operation after a commit of its holder, where that doesn't let it go.
+    // Adds who inherits the operation when its holder commits, if that does not help.
     fn put_heir(&self, prose: Prose<A>, op: NumberedOp) -> Prose<A> {
         let holder = op.held.holder;
         let may_commit = self
@@ -412,7 +413,7 @@ impl<'a, A: Handle> Refused<'a, A> {
         }
     }
 
-    // Adds that the one that depends may do something only after the other has done something.
+    // Adds that the dependent transaction may do something only after the other has done something.
     fn put_awaits(&self, prose: Prose<A>, blocking_edge: &BlockingEdge) -> Prose<A> {
         let edge = blocking_edge.by.edge;
         let (before, after) = awaited(blocking_edge.rule);
@@ -428,7 +429,7 @@ impl<'a, A: Handle> Refused<'a, A> {
         put!(prose; ", and so may not ", event_word(self.event.kind()), ".")
     }
 
-    // Adds that one may commit only before another begins, or commits.
+    // Adds that a transaction may commit only before another begins, or commits.
     fn put_too_late(&self, prose: Prose<A>, blocking_edge: &BlockingEdge) -> Prose<A> {
         let edge = blocking_edge.by.edge;
         let prose = put!(prose; edge.i.0, " may commit only before ", edge.j.0);
@@ -468,7 +469,7 @@ impl<'a, A: Handle> Refused<'a, A> {
     }
 }
 
-// What the one that depends may do only after the other has done what, by a rule on this.
+// The phrases of a rule by which the dependent transaction may do one thing only after the other has done another.
 fn awaited(rule: Rule) -> (&'static str, &'static str) {
     match rule {
         Rule::BeginDep => (" may begin only after ", " has begun; "),

@@ -1,4 +1,4 @@
-//! What is written for the bytes of a model and of an input.
+//! The report for the bytes of a model and of an input.
 
 ghost use Rattle.std.specs.Prelude.{◌≡◌, ◌≤◌, ◌+◌, true, false, Ok, IfOk, IfSome};
 ghost use Rattle.acta_io.specs.Outcome.{FailsBy, IsUnreadTooLong, KeepsUnread, WritesBy, reason_of};
@@ -23,7 +23,7 @@ use acta_table::Model;
 use std::alloc::{AllocError, Global};
 use std::thread::Threads;
 
-/// Adds how a command line names a model.
+/// Adds a model's name as a command line has it.
 pub fn put_model_name<A: Handle>(prose: Prose<A>, name: ModelName<'_>) -> Prose<A> {
     match name {
         ModelName::Standard(standard) => put!(prose; "@", standard.name()),
@@ -31,7 +31,7 @@ pub fn put_model_name<A: Handle>(prose: Prose<A>, name: ModelName<'_>) -> Prose<
     }
 }
 
-/// What is written for bytes that mean no model: the line that all commands write, and what is wrong with them.
+/// The report on bytes that are not a model: the line that all commands write, and the description of the fault.
 pub fn explain_no_model<A: Handle>(
     alloc: A,
     name: ModelName<'_>,
@@ -57,7 +57,7 @@ pub fn explain_no_model<A: Handle>(
     report_of(put_lines(prose, words.as_str()), true)
 }
 
-// What is written on a model.
+// The report on a model.
 fn explain_on<A: Handle + Send + Sync, R: Threads + Sync>(
     rt: &R,
     alloc: A,
@@ -75,8 +75,8 @@ fn explain_on<A: Handle + Send + Sync, R: Threads + Sync>(
     }
 }
 
-/// What is written for the bytes of a model of this name and of an input, whose lines are of this kind. The input is refused
-/// where the model or a line is faulty; so is one of more kept lines than can be judged.
+/// The report for the bytes of a model with this name and of an input with lines of this kind. It refuses the input if the
+/// model or a line is faulty, or if there are more kept lines than can be judged.
 pub fn explain<A: Handle + Send + Sync, R: Threads + Sync>(
     rt: &R,
     alloc: A,
@@ -94,8 +94,8 @@ pub fn explain<A: Handle + Send + Sync, R: Threads + Sync>(
     }
 }
 
-/// Reads the whole input, and writes in one go what explains it on the model of these bytes and this name. `Unread`
-/// and `Unwritten` as for the other commands: where the input can't be read, nothing is written.
+/// Reads the whole input, and writes at once the report that explains it on the model of these bytes and this name. Returns
+/// `Unread` and `Unwritten` as the other commands do: if the input can't be read, nothing is written.
 pub fn explain_tool<A: Handle + Send + Sync, R: Threads + Sync, S: Source, W: Sink>(
     rt: &R,
     alloc: A,
@@ -122,7 +122,7 @@ pub fn explain_tool<A: Handle + Send + Sync, R: Threads + Sync, S: Source, W: Si
     }
 }
 
-/// Writes words, and reads nothing. `Unwritten` where a write fails.
+/// Writes words, and reads nothing. Returns `Unwritten` if a write fails.
 pub fn write_words<W: Sink>(words: String, output: &mut W) -> Outcome {
     let report: Report<Global> = Report {
         text: words.into_bytes(),

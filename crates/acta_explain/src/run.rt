@@ -1,5 +1,5 @@
-//! The run of the events of an input, line by line: the answer to each event, what it formed or why it is refused,
-//! and in the end what is owed.
+//! The run of an input's events, line by line: the answer to each event, what it formed or why it is refused, and at the end
+//! the debts.
 
 ghost use Rattle.std.specs.Prelude.{◌≡◌, ◌||◌, IfOk, is_some};
 ghost use Rattle.acta_script.specs.Answers.{answer_line};
@@ -19,7 +19,8 @@ use crate::put;
 use crate::run_trace::{MOST_RENDERED, RunTrace};
 use acta_hope::never_begin;
 use acta_io::{
-    BadLine, EventLines, Input, MOST_SEATS, Report, Script, SeatedLines, read_lines, read_script,
+    BadLine, EventLines, Input, MOST_SEATS, NonBlankLine, Report, Script, SeatedLines, read_lines,
+    read_script,
 };
 use acta_machine::Handle;
 use acta_script::{Seated, answer_line, owed_line};
@@ -27,8 +28,8 @@ use acta_table::{Event, Model, Owed};
 use acta_trace::Step;
 use std::alloc::AllocError;
 
-// Adds a debt, with the edge by which it is owed, the status of the transaction on which that edge is, and whether the debt can
-// still be paid. `lost` is what `never_begin` says of the machine.
+// Adds a debt, with its edge, the status of the other transaction of that edge, and whether the debt can still be paid.
+// `lost` is the result of `never_begin` for the machine.
 fn put_owed<A: Handle>(
     prose: Prose<A>,
     run: &RunTrace<A>,
@@ -65,7 +66,7 @@ fn put_owed<A: Handle>(
     }
 }
 
-// Adds what is owed.
+// Adds the debts.
 fn put_debts<A: Handle>(mut prose: Prose<A>, run: &RunTrace<A>, columns: Columns) -> Prose<A> {
     let Ok(debts) = run.machine().owed() else {
         return prose.fail();
@@ -125,8 +126,8 @@ fn put_step<A: Handle>(
     put_barred(prose, columns.indent(), text.reason.as_str())
 }
 
-// Adds the whole run. `stop` is the faulty line of the input. Debts follow a faulty command, since all events are before the
-// commands.
+// Adds the whole run. `stop` is the faulty line of the input. After a faulty command the debts are added, since all events
+// are before the commands.
 fn put_run<A: Handle>(mut prose: Prose<A>, run: &RunTrace<A>, stop: Option<Stop<'_>>) -> Prose<A> {
     let alloc = run.allocator();
     let Ok(columns) = columns_of(run) else {
@@ -150,16 +151,16 @@ fn put_run<A: Handle>(mut prose: Prose<A>, run: &RunTrace<A>, stop: Option<Stop<
     }
 }
 
-// The words of a run of these events, which the lines of the input say, up to the faulty one.
+// The words of a run of these events, each with its line, up to the faulty one.
 fn run_text<A: Handle>(
     alloc: A,
     model: Model<A>,
     events: Vec<Event<A>, A>,
-    input: &[u8],
+    lines: &[NonBlankLine<'_>],
     stop: Option<Stop<'_>>,
 ) -> Result<String<A>, AllocError> {
     let mut run = RunTrace::new(alloc, model)?;
-    let text = match run.take_all(events, input) {
+    let text = match run.take_all(events, lines) {
         Ok(()) => put_run(Prose::new(alloc), &run, stop).done(),
         Err(e) => Err(e),
     };
@@ -167,24 +168,24 @@ fn run_text<A: Handle>(
     text
 }
 
-// What is written of a run of these events. The input is refused where it has a faulty line.
+// The report on a run of these events. It refuses the input if that has a faulty line.
 fn run_report<A: Handle>(
     alloc: A,
     model: Model<A>,
     events: Vec<Event<A>, A>,
-    input: &[u8],
+    lines: &[NonBlankLine<'_>],
     stop: Option<Stop<'_>>,
 ) -> Result<Report<A>, AllocError>
     ensures { IfOk result (λ report. report.is_refused ≡ is_some stop.entry) }
 {
-    let text = run_text(alloc, model, events, input, stop)?;
+    let text = run_text(alloc, model, events, lines, stop)?;
     Ok(Report {
         text: text.into_bytes(),
         is_refused: stop.is_some(),
     })
 }
 
-// The faulty line of the input, if there is one, which should have been this.
+// The faulty line of the input, if there is one, with the form that it should have.
 fn stop_at<'a>(input: &'a [u8], bad: Option<BadLine>, form: LineForm) -> Option<Stop<'a>>
     ensures { is_some result ≡ is_some bad }
 {
@@ -194,7 +195,7 @@ fn stop_at<'a>(input: &'a [u8], bad: Option<BadLine>, form: LineForm) -> Option<
     }
 }
 
-/// What is written of a run of the event lines of the input, which is refused where a line is faulty.
+/// The report on a run of the input's event lines. It refuses the input if a line is faulty.
 pub fn explain_run<A: Handle>(
     alloc: A,
     model: Model<A>,
@@ -206,12 +207,16 @@ pub fn explain_run<A: Handle>(
         alloc,
         model: &model,
     };
-    let Input { parsed, stop } = read_lines(alloc, &reader, input)?;
+    let Input {
+        parsed,
+        lines,
+        stop,
+    } = read_lines(alloc, &reader, input)?;
     run_report(
         alloc,
         model,
         parsed,
-        input,
+        lines.as_slice(),
         stop_at(input, stop, LineForm::Event),
     )
 }
@@ -228,8 +233,8 @@ fn events_of<A: Handle>(
     Ok(events)
 }
 
-/// What is written of a run of the events of the seated lines of the input, in the order of the lines. It is refused where a
-/// line is faulty; the seats are numbered from 1 to `MOST_SEATS`.
+/// The report on a run of the events of the input's seated lines, in the order of the lines. It refuses the input if a line
+/// is faulty; the seats are numbered from 1 to `MOST_SEATS`.
 pub fn explain_seated<A: Handle>(
     alloc: A,
     model: Model<A>,
@@ -242,18 +247,22 @@ pub fn explain_seated<A: Handle>(
         model: &model,
         seats: MOST_SEATS,
     };
-    let Input { parsed, stop } = read_lines(alloc, &reader, input)?;
+    let Input {
+        parsed,
+        lines,
+        stop,
+    } = read_lines(alloc, &reader, input)?;
     let events = events_of(alloc, parsed)?;
     run_report(
         alloc,
         model,
         events,
-        input,
+        lines.as_slice(),
         stop_at(input, stop, LineForm::Seated),
     )
 }
 
-// The first faulty line of a script: of its events, or else of its commands.
+// The first faulty line of a script: of its events, otherwise of its commands.
 fn script_stop<'a>(
     input: &'a [u8],
     events: Option<BadLine>,
@@ -267,8 +276,8 @@ fn script_stop<'a>(
     }
 }
 
-/// What is written of a debug script: of a run of its events, and of its first faulty line. It is refused where a line of the
-/// events is faulty, or a command is; commands are read, and not carried out.
+/// The report on a debug script: a run of its events, and its first faulty line. It refuses the input if a line of the
+/// events or a command is faulty; commands are parsed, but not run.
 pub fn explain_script<A: Handle>(
     alloc: A,
     model: Model<A>,
@@ -278,5 +287,5 @@ pub fn explain_script<A: Handle>(
 {
     let Script { events, commands } = read_script(alloc, &model, input)?;
     let stop = script_stop(input, events.stop, commands.stop);
-    run_report(alloc, model, events.parsed, input, stop)
+    run_report(alloc, model, events.parsed, events.lines.as_slice(), stop)
 }

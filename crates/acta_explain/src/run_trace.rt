@@ -1,38 +1,39 @@
 //! A run in words, event by event: its steps, and the words of each.
 
-use crate::lines::{LineIndex, NonBlankLine, StepText, non_blank_lines};
+use crate::lines::{LineIndex, StepText};
 use crate::listing::MOST_LISTED;
 use crate::phrases::{first_named, put_edges};
 use crate::prose::Prose;
 use crate::put;
 use crate::reasons::Refused;
 use acta_hope::why_and_hope;
+use acta_io::NonBlankLine;
 use acta_machine::{Handle, Machine};
 use acta_table::{Answer, Edge, Event, LAST_TXN, Model, Rule, TxnId, lengthen};
 use acta_trace::{Step, Trace};
 use std::alloc::{AllocError, Allocator};
 
-/// The most refused events that are explained of a run, and the most faults of a verdict. Later ones are counted, so that millions
-/// of them take neither time nor room.
+/// The most refused events of a run, and the most faults of a verdict, that are explained. Later ones are only counted, so
+/// that millions of them cost neither time nor space.
 pub const MOST_RENDERED: usize = 32_768;
 
 // The most refused events that are remembered until one is admitted.
 const MOST_REFUSED: usize = 64;
 
-// How many edges are looked at, in a run, for transactions that wait for one another: what is found is written as long as
-// it is found in so many looks, so that a run with many edges and many waits isn't slow.
+// How many edges a run may visit in searches for transactions that wait for each other. After that many visits the searches
+// stop, so that a run with many edges and many waits isn't slow.
 const MOST_LOOKS: usize = 2_000_000;
 
-/// A run so far, in words. An event that was refused since the last one that was admitted is refused again for the same reason.
+/// A run so far, in words. An event that was refused since the last admitted one is refused again for the same reason.
 #[derive(Drop)]
 pub struct RunTrace<A: Handle> {
     alloc: A,
     trace: Trace<A>,
     // One for each step.
     texts: Vec<StepText<A>, A>,
-    // The places of refused steps since the last event that was admitted.
+    // The places of the refused steps since the last admitted event.
     refused: Vec<usize, A>,
-    // By transaction the place of its last event, if that was refused.
+    // For each transaction the place of its last event, if that was refused.
     blocked: Vec<Option<usize>, A>,
     refused_steps: usize,
     skipped: usize,
@@ -40,7 +41,7 @@ pub struct RunTrace<A: Handle> {
 }
 
 impl<A: Handle> RunTrace<A> {
-    /// Nothing has happened yet.
+    /// The run before any event.
     pub fn new(alloc: A, model: Model<A>) -> Result<RunTrace<A>, AllocError> {
         Ok(RunTrace {
             alloc,
@@ -84,27 +85,29 @@ impl<A: Handle> RunTrace<A> {
         }
     }
 
-    /// The steps, which find who began or ended a transaction.
+    /// The steps, indexed by what they began and ended.
     pub fn trace(&self) -> &Trace<A> {
         &self.trace
     }
 
-    /// How many refused events have no step, because so many had one before.
+    /// How many refused events have no step, because there were too many before.
     pub fn skipped(&self) -> usize {
         self.skipped
     }
 
-    /// Takes all events, each of which a line of the input says.
-    pub fn take_all(&mut self, events: Vec<Event<A>, A>, input: &[u8]) -> Result<(), AllocError> {
-        let lines = non_blank_lines(self.alloc, input)?;
+    /// Takes all events, each with its line.
+    pub fn take_all(
+        &mut self,
+        events: Vec<Event<A>, A>,
+        lines: &[NonBlankLine<'_>],
+    ) -> Result<(), AllocError> {
         for (event, line) in events.into_iter().zip(lines) {
-            self.take(line, event)?;
+            self.take(*line, event)?;
         }
         Ok(())
     }
 
-    /// Takes the event that the line says. An event that is refused has a step only if fewer than `MOST_RENDERED` refused ones had
-    /// one before.
+    /// Takes the event of the line. A refused event gets a step only if fewer than `MOST_RENDERED` refused ones have one.
     pub fn take(&mut self, line: NonBlankLine<'_>, event: Event<A>) -> Result<(), AllocError> {
         let is_kept = self.refused_steps < MOST_RENDERED;
         let t = first_named(&event);
@@ -139,7 +142,7 @@ impl<A: Handle> RunTrace<A> {
         }
     }
 
-    /// No transaction of this number or above has a last event that was refused.
+    /// An upper bound: no transaction with this number or a greater one has a last event that was refused.
     pub fn blocked_below(&self) -> u16 {
         u16::try_from(self.blocked.len()).unwrap_or(u16::MAX)
     }
@@ -156,7 +159,7 @@ impl<A: Handle> RunTrace<A> {
         Ok(())
     }
 
-    // The words of the step that refused the same event as the one at this place, since the last event that was admitted.
+    // The words of an earlier step that refused the same event as the one at this place, since the last admitted event.
     fn refused_before(&self, place: usize) -> Option<&StepText<A>> {
         let event = &self.steps().get(place)?.event;
         for earlier in self.refused.iter() {
@@ -167,7 +170,7 @@ impl<A: Handle> RunTrace<A> {
         None
     }
 
-    // Why the event of the step at this place is refused, by this rule, in lines. The step is noted for where the event comes
+    // Why this rule refuses the event of the step at this place, in lines. The step is remembered in case the event comes
     // again.
     fn reason_at(&mut self, place: usize, rule: Rule) -> Result<String<A>, AllocError> {
         let prose = Prose::new(self.alloc);
@@ -209,7 +212,7 @@ impl<A: Handle> RunTrace<A> {
     }
 }
 
-/// Adds the operation that a step did, and the edges that it formed; these are all edges.
+/// Adds the operation that a step did, and the edges that it formed; `edges` are all edges.
 pub fn put_formed<A: Allocator>(prose: Prose<A>, edges: &[Edge], step: &Step<A>) -> Prose<A> {
     let prose = match step.op {
         Some(op) => put!(prose; "operation ", op.0),

@@ -1,4 +1,4 @@
-//! What a rule, an axiom or a code means that is asked for by its number or its name.
+//! The meaning of a rule, an axiom or a code, found by its number or its name.
 
 use crate::prose::Prose;
 use crate::put;
@@ -13,13 +13,13 @@ use std::alloc::Allocator;
 /// A rule, an axiom or a code, in words.
 #[derive(Clone, Copy)]
 pub struct Entry {
-    /// Its number, as the program prints it.
+    /// Its number, as printed.
     pub number: u8,
     /// Its name.
     pub name: &'static str,
     /// What it means.
     pub sentence: &'static str,
-    /// What the number means that is printed with it, as a transaction or an edge; empty where none is printed.
+    /// The meaning of the number that is printed with it, such as a transaction or an edge; empty if none is printed.
     pub by: &'static str,
 }
 
@@ -34,10 +34,10 @@ pub enum Table {
     ModelFaults,
 }
 
-/// The most entries that a table has.
+/// The most entries of a table.
 pub const MOST_ENTRIES: usize = RULES.len();
 
-/// The tables in which codes are looked for.
+/// The tables of codes.
 pub const CODES: [Table; 4] = [
     Table::LineCodes,
     Table::TextCodes,
@@ -125,7 +125,7 @@ const EDGE: &str = "an edge";
 
 const NOTHING: &str = "";
 
-// What the number means that is printed with a rule.
+// The meaning of the number that is printed with a rule.
 fn named_by_rule(rule: Rule) -> &'static str {
     match rule {
         Rule::Full
@@ -149,7 +149,7 @@ fn named_by_rule(rule: Rule) -> &'static str {
     }
 }
 
-// What the number means that is printed with an axiom.
+// The meaning of the number that is printed with an axiom.
 fn named_by_axiom(axiom: Axiom) -> &'static str {
     match axiom {
         Axiom::Responsible | Axiom::HandsWhole | Axiom::Conflict => OPERATION,
@@ -161,7 +161,7 @@ fn named_by_axiom(axiom: Axiom) -> &'static str {
 }
 
 impl Table {
-    /// What an entry of the table is called before its number.
+    /// The noun for an entry of the table, before its number.
     pub fn title(self) -> &'static str {
         match self {
             Table::Rules => "rule",
@@ -220,8 +220,7 @@ impl Table {
     }
 }
 
-/// Adds the entries of the table that have this word as their number or their name: the number and the name of each, and what it
-/// means.
+/// Adds the entries of the table with this word as number or name: the number, the name and the meaning of each.
 pub fn put_meant<A: Allocator>(mut prose: Prose<A>, table: Table, word: &str) -> Prose<A> {
     let number = read_u16(word.as_bytes());
     for place in 0..MOST_ENTRIES {

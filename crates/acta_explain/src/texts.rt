@@ -1,4 +1,4 @@
-//! What is wrong with a text of a model: where, with which word, what stands there in a good text, and which word was
+//! Describes a faulty text of a model: where the fault is, the wrong word, what a good text has there, and the word that was
 //! perhaps meant.
 
 use crate::faults::{COMMENT, put_hint};
@@ -11,7 +11,7 @@ use acta_machine::Handle;
 use acta_script::{EVENT_KINDS, event_word};
 use acta_words::{Lines, Span, word_span, words_of};
 
-// A line that is faulty, how many words it has, the word at fault, if there is one, and what is wrong with it.
+// A faulty line, its number of words, the word at fault, if there is one, and the diagnostic.
 #[derive(Drop)]
 struct BadText<'a, A: Handle> {
     alloc: A,
@@ -28,7 +28,7 @@ const SPAWN_FORMS: &str = "`spawn starter KIND started` or `spawn started KIND s
 
 const SPLIT_FORMS: &str = "`split starter KIND started` or `split started KIND starter`";
 
-// Whether the line of an event begins with the word.
+// Whether a line of an event begins with the word.
 fn is_event_word(word: &[u8]) -> bool {
     for kind in EVENT_KINDS {
         if event_word(kind).as_bytes() == word {
@@ -91,7 +91,7 @@ impl<'a, A: Handle> BadText<'a, A> {
         word.unwrap_or(b"".as_slice())
     }
 
-    // Adds the column of the word at fault, or else the one after the last word.
+    // Adds the column of the word at fault, or the column after the last word.
     fn put_column(&self, prose: Prose<A>) -> Prose<A> {
         let column = match self.word {
             Some(span) => span.from.saturating_add(1),
@@ -121,7 +121,7 @@ impl<'a, A: Handle> BadText<'a, A> {
         }
     }
 
-    // Adds the byte at this offset, which no text has.
+    // Adds the byte at this offset, which no text may have.
     fn put_byte(&self, prose: Prose<A>, offset: usize) -> Prose<A> {
         let next = offset.saturating_add(1);
         let prose = put!(prose; ", column ", next);
@@ -135,21 +135,21 @@ impl<'a, A: Handle> BadText<'a, A> {
         }
     }
 
-    // Adds the earlier line that declares such a thing under this name.
+    // Adds the earlier line that declares the name.
     fn put_declared(&self, prose: Prose<A>, what: &str) -> Prose<A> {
         let line = self.found.earlier.unwrap_or(0);
         let prose = put!(self.put_named(prose); "line ", line, " declares the ", what, " `");
         put_shown(prose, self.word_text()).put("` already")
     }
 
-    // Adds that no class is open, where a line of a class stands.
+    // Adds that no class is open, for a line of a class.
     fn put_outside(&self, prose: Prose<A>) -> Prose<A> {
         let prose = self.put_named(prose).put("no class is open here: a `");
         let prose = put_shown(prose, self.word_text());
         prose.put("` belongs between a `class NAME` and its `end`")
     }
 
-    // Adds a fault that has to do with the class that is open.
+    // Adds a fault that involves the open class.
     fn put_in_class(&self, prose: Prose<A>, class: ClassLines<'a>) -> Prose<A> {
         let name = name_text(class.name);
         match self.found.expected {
@@ -186,7 +186,7 @@ impl<'a, A: Handle> BadText<'a, A> {
         }
     }
 
-    // Adds what is wrong with the line.
+    // Adds the description of the line's fault.
     fn put_found(&self, prose: Prose<A>) -> Prose<A> {
         match (self.found.expected, self.found.class) {
             (Expected::Printable(offset), _) => self.put_byte(prose, offset),
@@ -209,7 +209,7 @@ impl<'a, A: Handle> BadText<'a, A> {
     }
 }
 
-// Adds the parts of a class that no line has said.
+// Adds the parts of a class that have no line.
 fn put_lacking<A: Handle>(mut prose: Prose<A>, parts: PartLines) -> Prose<A> {
     let mut is_first = true;
     for (word, line) in [

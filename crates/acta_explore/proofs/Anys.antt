@@ -19,7 +19,7 @@ module _ {X : Type 0} where
   any-step test x n xs ih true e = rw e
   any-step test x n xs ih false e = rw e ih
 
-  -- a place is found where some element passes
+  -- a place is found if some element passes
   pub position-any : (test : X → Bool) (n : ℕ) (xs : List X) → is_none (position_from test n xs) ≡ not (list_any test xs)
   position-any test n [] = refl
   position-any test n (x ∷ xs) = any-step test x n xs (position-any test (n + 1) xs) (test x) refl
@@ -36,7 +36,7 @@ module _ {X : Type 0} where
   any-append test [] ys = refl
   any-append test (x ∷ xs) ys = ap (λ (b : Bool). test x || b) (any-append test xs ys) ∙ or-three (test x) (list_any test xs) (list_any test ys)
 
--- the smallest of those that pass, where there is one
+-- the smallest of those that pass, if there is one
 least-step : (test : ℕ → Bool) (n : ℕ) (ns : List ℕ) → is_none (smallest (filter test ns)) ≡ not (list_any test ns) → (b : Bool) → test n ≡ b → is_none (smallest (filter test (n ∷ ns))) ≡ not (list_any test (n ∷ ns))
 least-step test n ns ih true e = rw e
 least-step test n ns ih false e = rw e ih

@@ -1,4 +1,4 @@
--- Seats that wait for one another.
+-- Seats that wait for each other.
 use Rattle.std.proofs.Common.{◌≡◌, ◌≤◌, ℕ, ◌+◌, ◌-◌, Bool, true, false, ◌&&◌, ◌==◌, List, [], ◌∷◌, length, get_or, drop, refl, ap, subst, ◌∙◌, arith}
 use Rattle.std.specs.List.{list_any, zip}
 use Rattle.std.proofs.lemmas.Bool.Decides.{nat_tests}
@@ -31,7 +31,7 @@ linked-waits programs p links s u are linked =
     subst (λ (t : ℕ). WaitsForSeat programs p t u) same.0 (subst (λ (t : ℕ). WaitsForSeat programs p link.seat t) same.1
     (subst (λ (l : Link). WaitsForSeat programs p l.seat l.next) found.3 (are found.0 link found.2)))
 
--- a chain that is closed is a circle
+-- a closed chain is a cycle
 pub closed-circle : {A : Type 0} (programs : Programs A) (p : Point A) (links : List Link) (chain : List ℕ) → AreLinks programs p links → IsChain links chain → 2 ≤ length chain → get_or chain (length chain - 1) 0 ≡ get_or chain 0 0 → IsCircle programs p chain
 closed-circle programs p links chain are linked long closed = record {
   long = long;

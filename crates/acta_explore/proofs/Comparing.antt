@@ -1,4 +1,4 @@
--- What `==` says of the parts of a key.
+-- `==` on the parts of a key.
 use Rattle.std.proofs.Common.{◌≡◌, ◌==◌, ◌&&◌, Bool, true, List, [], ◌∷◌, Option, Some, None, refl, ap, rules}
 use Rattle.std.specs.Cmp.{first_so, second_so}
 use Rattle.std.specs.Cmp.Lexicographic.{pointwise}
@@ -41,7 +41,7 @@ option-same d None (Some b) h = absurd cc
 option-same d (Some a) None h = absurd cc
 option-same d (Some a) (Some b) h = ap Some (d a b h)
 
--- lists are the same where their items are, one by one
+-- lists are the same if their items are, one by one
 pub lists-same : {X : Type 0} {E : X → X → Bool} → ((a b : X) → E a b ≡ true → a ≡ b) → (xs ys : List X) → pointwise E xs ys ≡ true → xs ≡ ys
 lists-same d [] [] h = refl
 lists-same d [] (y ∷ ys) h = absurd cc

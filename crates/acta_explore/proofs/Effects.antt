@@ -1,4 +1,4 @@
--- An event leaves summaries that agree on what programs can see in agreement.
+-- After an event, summaries that agree on what programs can see still agree.
 use Rattle.std.proofs.Common.{◌≡◌, ◌==◌, ℕ, ◌+◌, Bool, true, false, List, [], ◌∷◌, ◌++◌, map, length, Option, Some, None, is_none, refl, sym, ap, subst, ◌∙◌}
 use Rattle.std.specs.Prelude.{if◌then◌else◌}
 use Rattle.std.specs.List.{list_any}
@@ -27,7 +27,7 @@ use Rattle.acta_explore.proofs.Filters.{map-same, push-same, by_line-map, by_lin
 use Rattle.acta_explore.proofs.Named.{AreNamed, given_line, moved-lines, length-moved}
 use Rattle.acta_explore.proofs.Rules.{AreEquivalent, with_lists, with_ops, rule_in, formed-same, refused-same, value-same, return-same, due-same}
 
--- two summaries agree on what programs can see, where these lines did their operations
+-- two summaries agree on what programs can see, if these lines did their operations
 pub record AreLike (s u : Summary) (ls ks : List ℕ) : Type 0 where
   pub rest : without_lists s ≡ without_lists u
   pub edges : AreSameEdges s.edges u.edges

@@ -1,4 +1,4 @@
--- What `==` says of outcomes.
+-- `==` on outcomes.
 use Rattle.std.proofs.Common.{◌≡◌, ◌==◌, ◌&&◌, ℤ, Bool, true, false, true≢false, cond, Decides, is_some, List, [], ◌∷◌, ◌++◌, map, get_or, drop, Option, Some, None, refl, sym, ap, subst, ◌∙◌, rules}
 use Rattle.std.specs.Prelude.{option_map}
 use Rattle.std.specs.List.{All}
@@ -187,7 +187,7 @@ module _ (A : RattleType) (ghosts : Ghosts A.Denot) (d e : Dict) where
       (Decides-and values debts (lists-shown (option_eq values_equivalent) (option_map shown_value) (option-shown values_equivalent shown_value value-shown) a.values.items b.values.items)
       (pointwise_decides debt-decides a.debts.items b.debts.items)))))
 
--- what a look-up by an outcome says of the ends: one that is found has the same outcome, and one that is not has another
+-- a look-up by an outcome: an end that is found has the same outcome; if none is found, all others differ
 -- than each
 module _ {A : Type 0} (programs : Programs A) (eq : outcome_struct A → outcome_struct A → Bool) (decides : (a b : outcome_struct A) → Decides (eq a b) (shown a ≡ shown b)) (found : outcome_struct A) (p : Point A) (of : shown found ≡ outcome programs p) where
   pub like-found : (es : List (outcome_struct A × Point A)) → AreOutcomes programs es → is_some (lookup (eq found) es) ≡ true → HasLike (HaveSameOutcome programs) (points_of es) p

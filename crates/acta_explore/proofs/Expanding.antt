@@ -1,4 +1,4 @@
--- Loops that put points to others.
+-- Loops that add points to others.
 use Rattle.std.proofs.Common.{◌≡◌, ℕ, ◌<◌, ◌≤◌, ◌+◌, ◌-◌, zero, suc, true≢false, Bool, true, false, not, cond, List, [], ◌∷◌, ◌++◌, length, get_or, take, map, Option, Some, None, refl, sym, ap, subst, ◌∙◌, arith}
 use Rattle.std.specs.Prelude.{nat_lt, option_map, slice_get, IsSome, OnOk}
 use Rattle.std.specs.Result.{is_err}
@@ -38,14 +38,14 @@ some-take f xs i d y less e = ap (filter_map f) (take_more xs i d less) ∙ some
 none-take : {X Y : Type 0} (f : X → Option Y) (xs : List X) (i : ℕ) (d : X) → i < length xs → f (get_or xs i d) ≡ None → filter_map f (take (i + 1) xs) ≡ filter_map f (take i xs)
 none-take f xs i d less e = ap (filter_map f) (take_more xs i d less) ∙ none-filter f (take i xs) (get_or xs i d) e
 
--- what the first turns lead to is put to the next level, whose points were old
+-- the points after the first turns are added to the next level; `old` are its earlier points
 pub record IsExpandedTo {A : Type 0} (programs : Programs A) (p : Point A) (old : List (Point A)) (turns : List Turn) (n : ℕ) (next : List (Key A × Point A)) (has_step : Bool) : Type 0 where
   pub keyed : AreKeyed programs next
   pub merged : IsMerged (AreEquivalent programs) AreAny old (filter_map (stepped programs p) (take n turns)) (points_of next)
   pub some : has_step ≡ not (is_nil (filter_map (stepped programs p) (take n turns)))
 
 module _ {A : Type 0} (programs : Programs A) (p : Point A) (old : List (Point A)) (turns : List Turn) where
-  -- a turn that is refused leaves all as it was
+  -- a refused turn changes nothing
   pub expanded-none : (n : ℕ) (d : Turn) (next : List (Key A × Point A)) (has_step : Bool) → n < length turns → stepped programs p (get_or turns n d) ≡ None → IsExpandedTo programs p old turns n next has_step → IsExpandedTo programs p old turns (n + 1) next has_step
   expanded-none n d next has_step less e s =
       let same = sym (none-take (stepped programs p) turns n d less e) in
@@ -55,7 +55,7 @@ module _ {A : Type 0} (programs : Programs A) (p : Point A) (old : List (Point A
         some = s.some ∙ ap (λ (ps : List (Point A)). not (is_nil ps)) same;
       }
 
-  -- another puts the point that it leads to
+  -- another adds the point after it
   pub expanded-some : (n : ℕ) (d : Turn) (q : Point A) (next more : List (Key A × Point A)) (has_step : Bool) → n < length turns → stepped programs p (get_or turns n d) ≡ Some q → AreKeyed programs more → IsPut (AreEquivalent programs) AreAny (points_of next) q (points_of more) → IsExpandedTo programs p old turns n next has_step → IsExpandedTo programs p old turns (n + 1) more true
   expanded-some n d q next more has_step less e keyed put s =
       let f = stepped programs p in
@@ -67,7 +67,7 @@ module _ {A : Type 0} (programs : Programs A) (p : Point A) (old : List (Point A
         some = sym (ap not (nil-push (filter_map f (take n turns)) q)) ∙ ap (λ (ps : List (Point A)). not (is_nil ps)) pushed;
       }
 
-  -- and at the end all that the steps lead to is put
+  -- at the end all points after the steps are added
   pub expanded-all : (n : ℕ) (next : List (Key A × Point A)) (has_step : Bool) → length turns ≤ n → turns ≡ turns_at programs (lines_done programs p.steps) → IsExpandedTo programs p old turns n next has_step → IsMerged (AreEquivalent programs) AreAny old (successors programs p) (points_of next) × (has_step ≡ not (is_nil (successors programs p)))
   expanded-all n next has_step past e s =
       let all = ap (filter_map (stepped programs p)) (take_all n turns past ∙ e) in
@@ -120,7 +120,7 @@ settled-off programs p b e off = by (is_nil (successors programs p)) (sym e ∙ 
     by true h = refl
     by false h = absurd cc
 
--- so that it is put to the ends
+-- so that it is added to the ends
 pub settled-put : {A : Type 0} (programs : Programs A) (p q : Point A) (b : Bool) (old new : List (Point A)) → b ≡ not (is_nil (successors programs p)) → b ≡ false → q ≡ p → IsPut (HaveSameOutcome programs) (HaveOthers programs) old q new → IsMerged (HaveSameOutcome programs) (HaveOthers programs) old (ends_among programs (p ∷ [])) new
 settled-put programs p q b old new e off same put =
     subst (λ (ps : List (Point _)). IsMerged (HaveSameOutcome programs) (HaveOthers programs) old ps new) (sym (settled-off programs p b e off))
@@ -138,7 +138,7 @@ pub at-ok : {T E P : Type 0} (r : Result T E) → is_err r ≡ false → OnOk r 
 at-ok (Ok x) off h = h
 at-ok (Err e) off h = absurd cc
 
--- what the first points of a level lead to is put to the next, and those of them that have no step to the ends
+-- the points after the first points of a level are added to the next level, and those without a step to the ends
 pub record IsPutTo {A : Type 0} (programs : Programs A) (level old : List (Point A)) (room n : ℕ) (next : List (Key A × Point A)) (ends : List (Outcome A × Point A)) : Type 0 where
   pub keyed : AreKeyed programs next
   pub outcomes : AreOutcomes programs ends
@@ -190,7 +190,7 @@ outcomes-kept {A = A} programs entries all = by entries (recursion_from_All (λ 
     by [] h = refl
     by (x ∷ xs) h = λ i. h.0 i ∷ by xs h.1 i
 
--- all orders of n steps from the root are searched, with as many points as may be
+-- all orders of n steps from the root are searched, with at most the allowed points
 pub record IsExploredTo {A : Type 0} (programs : Programs A) (root : Point A) (most points : ℕ) (level : List (Key A × Point A)) (ends : List (Outcome A × Point A)) : Type 0 where
   pub n : ℕ
   pub searched : IsSearchedTo programs root n (points_of level) (points_of ends)

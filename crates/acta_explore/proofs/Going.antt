@@ -1,4 +1,4 @@
--- From equivalent points programs go on in the same way.
+-- From equivalent points programs continue in the same way.
 use Rattle.std.proofs.Common.{◌≡◌, ◌<◌, ℕ, ◌+◌, zero, suc, Bool, true, false, ◌==◌, List, [], ◌∷◌, ◌++◌, map, length, cond, Option, Some, None, refl, sym, ap, subst, ◌∙◌, arith}
 use Rattle.std.specs.Prelude.{if◌then◌else◌, option_map, find}
 use Rattle.std.specs.List.{cons_option, range_with_len, AllByRecursion}
@@ -121,7 +121,7 @@ equivalent-trans programs p q r e f = record {
   operations = λ ob. e.operations ob ∙ f.operations ob;
 }
 
--- what the machine knows after a step
+-- the machine's summary after a step
 known-gone : {A : Type 0} (programs : Programs A) (p : Point A) (turn : Turn) (l : ℕ) (e : Event A) → refusal_in p.state (event_now programs p.steps e) ≡ None → known (gone_on p turn l (event_now programs p.steps e)) ≡ effect p.state.model (known p) (with_ops e (each_once (numbered_lines (operated_lines p.steps) (lines_named programs e))))
 known-gone programs p turn l e none = summary-after p.state (event_now programs p.steps e) none ∙ ap (effect p.state.model (known p)) (now-with programs p.steps e)
 
@@ -185,7 +185,7 @@ numbered-step programs p turn q here h =
       counted = like.here;
     })
 
--- a step from one of two equivalent points has its like from the other
+-- a step from one of two equivalent points has its counterpart from the other
 pub record HasStepLike {A : Type 0} (programs : Programs A) (p : Point A) (turn : Turn) (r : Point A) : Type 0 where
   pub to : Point A
   pub stepped : stepped programs p turn ≡ Some to

@@ -1,4 +1,4 @@
--- What keys have, and that points with equal keys are equivalent.
+-- The content of keys; and points with equal keys are equivalent.
 use Rattle.std.proofs.Common.{◌≡◌, ◌<◌, ◌≤◌, ◌==◌, ◌&&◌, ◌⊎◌, ℕ, zero, suc, Bool, true, false, not, List, [], ◌∷◌, ◌++◌, map, filter, length, get_or, is_some, refl, ap, sym, ◌∙◌, inl, inr, arith}
 use Rattle.std.specs.Cmp.{nat_cmp_is}
 use Rattle.std.specs.List.{range_with_len, list_any}
@@ -70,7 +70,7 @@ tie-same a b = by (cases_order a b)
     by (inr (inl less)) = from Less Greater (nat_cmp_is a b Less less) (nat_cmp_is b a Greater less) ∙ other (λ e. omega arith)
     by (inr (inr more)) = from Greater Less (nat_cmp_is a b Greater more) (nat_cmp_is b a Less more) ∙ other (λ e. omega arith)
 
--- a stable sort by objects leaves those on one object in their order
+-- a stable sort by objects keeps the order of those on one object
 pub stable-by-object : (xs ys : List LineOp) → IsStableByKey (λ o. o.held.ob.0) nat_cmp xs ys → (ob : ℕ) → filter (is_on ob) ys ≡ filter (is_on ob) xs
 stable-by-object xs ys stable ob =
     let one : LineOp = record { line = 0; held = record { ob = record { 0 = ob }; op = Read; holder = record { 0 = 0 }; fate = InProgress } } in
@@ -78,7 +78,7 @@ stable-by-object xs ys stable ob =
     let same : (o : LineOp) → tied o ≡ is_on ob o = λ o. tie-same ob o.held.ob.0 in
     sym (filter_agree tied (is_on ob) same ys) ∙ (stable one ∙ filter_agree tied (is_on ob) same xs)
 
--- the summary but for its lists, from what a key has
+-- the summary without its lists, from a key
 same-rest : (s u : Summary) → s.kept ≡ u.kept → ((t : ℕ) → s.status t ≡ u.status t) → ((t : ℕ) → s.class t ≡ u.class t) → ((t : ℕ) → s.parent t ≡ u.parent t) → ((h t object : ℕ) → s.permits h t object ≡ u.permits h t object) → without_lists s ≡ without_lists u
 same-rest s u kept status class parent permits = λ i. record {
   kept = kept i;

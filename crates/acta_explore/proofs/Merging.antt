@@ -1,4 +1,4 @@
--- What merging leaves of points whose orders rise.
+-- What merging keeps of points whose orders are sorted.
 use Rattle.std.proofs.Common.{◌≡◌, ◌⊎◌, arith, List, [], ◌∷◌, ◌++◌, refl, sym, ap, subst, ◌∙◌, inl, inr}
 use Rattle.std.specs.List.{Contains, AllByRecursion}
 use Rattle.std.specs.declared.cmp.Ordering.TheVariants.{Less}
@@ -16,7 +16,7 @@ abbrev pub IsBefore : {A : Type 0} → Point A → Point A → Type 0
 IsBefore p q = order_cmp (order_of p) (order_of q) ≡ Less
 
 module _ {A : Type 0} (R Unlike : Point A → Point A → Type 0) where
-  -- what holds of the points that were there, and of those that are put, holds of all
+  -- a property of the points that were there, and of the added ones, holds of all
   put-all : (P : Point A → Type 0) (p : Point A) (old mid : List (Point A)) → IsPut R Unlike old p mid → AllByRecursion P old → P p → AllByRecursion P mid
   put-all P p old mid (inl put) all one = subst (AllByRecursion P) (sym put.0) (all-append P old (p ∷ []) all (one, tt))
   put-all P p old mid (inr like) all one = subst (AllByRecursion P) (sym like.0) all
@@ -80,7 +80,7 @@ module _ {A : Type 0} (R Unlike : Point A → Point A → Type 0) where
     | inr there ↦ among-merged same ps m.0 new q m.2 (rise-put p ps old m.0 m.1 rise) there
   ]
 
-  -- and those that were put are unlike those before them
+  -- and the added points are unlike those before them
   unlike-put : (p : Point A) (old mid : List (Point A)) → IsPut R Unlike old p mid → Pairs Unlike old → Pairs Unlike mid
   unlike-put p old mid (inl put) pairs = subst (Pairs Unlike) (sym put.0) (pairs-push Unlike old p pairs (recursion_from_All (λ x. Unlike x p) old put.1))
   unlike-put p old mid (inr like) pairs = subst (Pairs Unlike) (sym like.0) pairs

@@ -1,4 +1,4 @@
--- The numbers that a machine has for the operations of lines.
+-- The machine's numbers for the operations of lines.
 use Rattle.std.proofs.Common.{◌≡◌, ◌<◌, ℕ, ◌+◌, zero, suc, Bool, true, false, ◌||◌, not, ◌==◌, List, [], ◌∷◌, map, length, fold, get_or, Option, Some, None, is_none, cond, ◌≤◌, refl, sym, ap, ◌∙◌, arith, inl, inr}
 use Rattle.std.specs.Prelude.{option_and_then, unwrap_or}
 use Rattle.std.specs.List.{list_any, position_from}
@@ -34,7 +34,7 @@ numbers-numbered : (ns : List ℕ) → numbers_of (numbered ns) ≡ ns
 numbers-numbered [] = refl
 numbers-numbered (n ∷ ns) = ap (λ (ms : List ℕ). n ∷ ms) (numbers-numbered ns)
 
--- a set of operations passes a test where some of the operations do
+-- a set of operations passes a test if some of the operations do
 pub any-each_once : (test : ℕ → Bool) (ops : List OpNo) → list_any test (numbers_of (each_once ops)) ≡ list_any test (numbers_of ops)
 any-each_once test ops = ap (list_any test) (numbers-numbered (ascending (numbers_of ops))) ∙ any-ascending test (numbers_of ops)
 

@@ -1,4 +1,4 @@
--- Elements that are put into an ordered set one by one: the set rises, and says only which elements they are.
+-- Elements that are added to an ordered set one by one: the set is sorted, and has exactly these elements.
 use Rattle.std.proofs.Common.{◌≡◌, Bool, true, false, ◌&&◌, ◌||◌, not, List, [], ◌∷◌, fold, refl, sym, ap, subst, ◌∙◌}
 use Rattle.std.specs.BTreeSet.{insert_key}
 use Rattle.std.specs.Cmp.{IsTotalOrder}

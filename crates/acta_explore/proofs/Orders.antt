@@ -29,7 +29,7 @@ by-slices xs ys e = ap (λ (o : Ordering). ordering_then o (slice_cmp turn_cmp x
 one-less : {m n : ℕ} → suc m ≡ suc n → m ≡ n
 one-less e = omega arith
 
--- with something more behind both
+-- with something more after both
 slice-step : (o p : Ordering) (s t : Ordering) → (s ≡ p → t ≡ p) → ordering_then o s ≡ p → ordering_then o t ≡ p
 slice-step Less p s t later e = e
 slice-step Equal p s t later e = later e

@@ -1,4 +1,4 @@
--- Lists in which each element stands in a relation to all that come after it.
+-- Lists in which each element is related to all later ones.
 use Rattle.std.proofs.Common.{◌<◌, ℕ, zero, suc, List, [], ◌∷◌, ◌++◌, length, get_or, arith}
 use Rattle.std.specs.List.{AllByRecursion}
 pub use Rattle.acta_explore.specs.inside.Numbered.{Pairs}

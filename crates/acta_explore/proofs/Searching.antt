@@ -1,4 +1,4 @@
--- What a search has found, level by level.
+-- The ends and points that a search has found, level by level.
 use Rattle.std.proofs.Common.{◌≡◌, ◌<◌, ◌⊎◌, ℕ, ◌+◌, Bool, true, false, List, [], ◌∷◌, ◌++◌, filter, length, take, drop, cond, Option, Some, None, refl, sym, ap, subst, ◌∙◌, arith, inl, inr}
 use Rattle.std.specs.Prelude.{option_and_then}
 use Rattle.std.specs.List.{AllByRecursion, Contains, flat_map}
@@ -63,7 +63,7 @@ with-last : {X : Type 0} (xs : List X) (n : ℕ) → length xs ≡ n + 1 → Has
 with-last [] n e = absurd (omega arith)
 with-last (x ∷ xs) n e = has-last x xs
 
--- what is reached is numbered
+-- points that are reached are numbered
 numbered-by : {A : Type 0} (programs : Programs A) (o : Option (Point A)) (turns : List Turn) (q : Point A) → ((p : Point A) → o ≡ Some p → IsNumbered p) → ((p : Point A) → IsNumbered p → played programs p turns ≡ Some q → IsNumbered q) → option_and_then (λ p. played programs p turns) o ≡ Some q → IsNumbered q
 numbered-by programs None turns q here later h = absurd cc
 numbered-by programs (Some p) turns q here later h = later p (here p refl) h
@@ -92,11 +92,11 @@ reached-step programs root p t q here h = record {
   leads = played-push programs root here.turns t ∙ (ap (option_and_then (λ r. stepped programs r t)) here.leads ∙ h);
 }
 
--- how long the orders are that are n turns longer than the root's
+-- the length of orders that are n turns longer than the root's
 abbrev pub longer : {A : Type 0} → Point A → ℕ → ℕ
 longer root n = length (order_of root) + n
 
--- a search has come to level n
+-- the invariant when a search has reached level n
 pub record IsSearchedTo {A : Type 0} (programs : Programs A) (root : Point A) (n : ℕ) (level ends : List (Point A)) : Type 0 where
   pub numbered : IsNumbered root
   pub reached : AllByRecursion (IsReached programs root) level
@@ -312,7 +312,7 @@ module _ {A : Type 0} (programs : Programs A) (root : Point A) (n : ℕ) (level 
       less-or : (k n : ℕ) → k < n + 1 → (k < n) ⊎ (k ≡ n)
       less-or k n less = elim (cases_lt k n) [ inl below ↦ inl below | inr above ↦ inr (omega arith) ]
 
--- an order that leads somewhere leads somewhere with each of its first turns
+-- if an order has a point, so has each front of it
 front-none : {A : Type 0} (programs : Programs A) (p : Point A) (front back : List Turn) → played programs p front ≡ None → played programs p (front ++ back) ≡ None
 front-none programs p [] back e = absurd cc
 front-none {A} programs p (t ∷ front) back e = by-step (stepped programs p t) (λ q. front-none programs q front back) e
@@ -324,7 +324,7 @@ front-none {A} programs p (t ∷ front) back e = by-step (stepped programs p t) 
 none-some : {X : Type 0} {x : X} → None ≡ Some x → ⊥
 none-some e = cc
 
--- no order leads on from an empty level
+-- no order continues from an empty level
 beyond : {A : Type 0} (programs : Programs A) (root : Point A) (n : ℕ) (ends : List (Point A)) → IsSearchedTo programs root n [] ends → (front back : List Turn) (q : Point A) → length front ≡ n → played programs root (front ++ back) ≡ Some q → ⊥
 beyond {A} programs root n ends s front back q e h = by-front (played programs root front) refl
   where
@@ -332,7 +332,7 @@ beyond {A} programs root n ends s front back q e h = by-front (played programs r
     by-front None f = none-some (sym (front-none programs root front back f) ∙ h)
     by-front (Some r) f = let c = s.covers front r e f in contains-nil c.by c.within
 
--- where a level is empty, all ends were found
+-- if a level is empty, all ends were found
 pub searched-all : {A : Type 0} (programs : Programs A) (root : Point A) (n : ℕ) (ends : List (Point A)) → IsSearchedTo programs root n [] ends → AreAllEndsFrom programs root ends
 searched-all {A} programs root n ends s = record {
   sound = All-from_recursion (IsEndReached programs root) ends s.sound;

@@ -1,4 +1,4 @@
--- What a step is, and what it leaves.
+-- Steps, and what they change.
 use Rattle.std.proofs.Common.{◌≡◌, ◌≤◌, ℕ, ◌+◌, zero, suc, Bool, true, false, ◌&&◌, ◌==◌, cond, List, [], ◌∷◌, ◌++◌, map, length, Option, Some, None, is_none, refl, sym, ap, subst, ◌∙◌, not, arith, inl, inr}
 use Rattle.std.specs.Prelude.{if◌then◌else◌, option_and_then, option_map, slice_get, find, nat_le}
 use Rattle.std.specs.List.{range_with_len, AllByRecursion}
@@ -106,13 +106,13 @@ order-step programs p turn q h =
     let one = is_step programs p turn q h in
     ap order_of one.gone ∙ map-append turn_of p.steps ((record { seat = turn.seat; line = one.line; alternative = turn.alternative; ret = (kept_as p.state (event_now programs p.steps one.event)).ret }) ∷ [])
 
--- the model stays
+-- the model stays the same
 pub model-step : {A : Type 0} (programs : Programs A) (p : Point A) (turn : Turn) (q : Point A) → stepped programs p turn ≡ Some q → q.state.model ≡ p.state.model
 model-step programs p turn q h =
     let one = is_step programs p turn q h in
     ap (λ (r : Point _). r.state.model) one.gone ∙ model-after p.state (event_now programs p.steps one.event) one.admitted
 
--- the line that comes next was not done
+-- the seat's next line was not done
 next-by : (f : ℕ → Option Done) (n l : ℕ) (o : Option ℕ) (b : Bool) → (o ≡ Some l → f l ≡ None) → (d : Option Done) → f n ≡ d → (if b && is_none d then Some n else o) ≡ Some l → f l ≡ None
 next-by f n l o true later None here e = let same : n ≡ l = cc in subst (λ (k : ℕ). f k ≡ None) same here
 next-by f n l o true later (Some d) here e = later e
@@ -132,7 +132,7 @@ undone-lines : (l : ℕ) (steps : List Step) → done_at steps l ≡ None → Al
 undone-lines l [] e = tt
 undone-lines l (s ∷ steps) e = undone-step l s steps (is_of_line l s) refl (undone-lines l steps) e
 
--- no step did the line that comes next
+-- no step did the seat's next line
 pub next-new : {A : Type 0} (programs : Programs A) (steps : List Step) (seat l : ℕ) → next_line programs steps seat ≡ Some l → AllByRecursion (λ r. Differ r.line l) steps
 next-new programs steps seat l e = undone-lines l steps (next-undone (done_at steps) 0 l seat programs (length programs) e)
 

@@ -1,4 +1,4 @@
--- The turns at a point are all that can lead on, in order; so are the points that they lead to.
+-- The turns at a point are all those with a step, in order; so are the points after them.
 use Rattle.std.proofs.Common.{◌≡◌, ◌<◌, ◌⊎◌, ℕ, ◌+◌, zero, suc, Bool, true, false, ◌&&◌, ◌||◌, ◌==◌, List, [], ◌∷◌, ◌++◌, map, length, Option, Some, None, is_none, refl, sym, ap, subst, ◌∙◌, arith, inl, inr}
 use Rattle.std.specs.Prelude.{⊤, if◌then◌else◌, option_and_then, slice_get}
 use Rattle.std.specs.List.{list_any, filter_map, flat_map, cons_option, range_with_len, Contains, AllByRecursion}
@@ -125,7 +125,7 @@ successor-among programs p turn q h =
     contains-filter_map (stepped programs p) (turns_at programs (lines_done programs p.steps)) turn q
     (turn-among programs (lines_done programs p.steps) turn one.line one.event one.next one.at) h
 
--- lists made of lists that rise
+-- lists made of sorted lists
 pairs-flat : {X Y : Type 0} (B : Y → Y → Type 0) (C : X → X → Type 0) (P : X → Type 0) (f : X → List Y) → ((x : X) → P x → Pairs B (f x)) → ((x z : X) → P x → P z → C x z → AllByRecursion (λ a. AllByRecursion (B a) (f z)) (f x)) → (xs : List X) → AllByRecursion P xs → Pairs C xs → Pairs B (flat_map f xs)
 pairs-flat B C P f each across [] all pairs = tt
 pairs-flat B C P f each across (x ∷ xs) all pairs =
@@ -144,7 +144,7 @@ pairs-flat B C P f each across (x ∷ xs) all pairs =
     across-all x px [] pz cz = nothing (f x)
     across-all x px (z ∷ zs) pz cz = flip (f x) (f z) (across x z px pz.0 cz.0) (flat_map f zs) (across-all x px zs pz.1 cz.1)
 
--- the turns rise
+-- the turns are sorted
 abbrev pub IsTurnBefore : Turn → Turn → Type 0
 IsTurnBefore t u = turn_cmp t u ≡ Less
 
@@ -196,7 +196,7 @@ turns-rise programs done =
     all-true [] = tt
     all-true (n ∷ ns) = (tt, all-true ns)
 
--- what is made of a list that rises
+-- a list made from a sorted list
 pairs-filter_map : {X Y : Type 0} (C : X → X → Type 0) (B : Y → Y → Type 0) (f : X → Option Y) → ((x z : X) (y w : Y) → C x z → f x ≡ Some y → f z ≡ Some w → B y w) → (xs : List X) → Pairs C xs → Pairs B (filter_map f xs)
 pairs-filter_map {X} {Y} C B f across [] pairs = tt
 pairs-filter_map {X} {Y} C B f across (x ∷ xs) pairs = put x (f x) refl xs pairs.0 (pairs-filter_map C B f across xs pairs.1)
@@ -213,7 +213,7 @@ pairs-filter_map {X} {Y} C B f across (x ∷ xs) pairs = put x (f x) refl xs pai
     put x None e xs all pairs = pairs
     put x (Some y) e xs all pairs = (after x y e xs all, pairs)
 
--- each of the successors comes of a step
+-- each of the successors comes from a step
 abbrev pub IsSuccessor : {A : Type 0} → Programs A → Point A → Point A → Type 0
 IsSuccessor programs p q = (turn : Turn) × (stepped programs p turn ≡ Some q)
 
@@ -228,7 +228,7 @@ all-filter_map {X} {Y} P f each (x ∷ xs) = put x (f x) refl (filter_map f xs) 
 pub successors-step : {A : Type 0} (programs : Programs A) (p : Point A) → AllByRecursion (IsSuccessor programs p) (successors programs p)
 successors-step programs p = all-filter_map (IsSuccessor programs p) (stepped programs p) (λ turn q h. (turn, h)) (turns_at programs (lines_done programs p.steps))
 
--- they rise
+-- they are sorted
 pub successors-rise : {A : Type 0} (programs : Programs A) (p : Point A) → Pairs IsBefore (successors programs p)
 successors-rise programs p =
     pairs-filter_map IsTurnBefore IsBefore (stepped programs p)
@@ -245,7 +245,7 @@ across-points programs p q (a ∷ ps) qs e less here there = (
   across-points programs p q ps qs e less here.1 there,
 )
 
--- the points after those of a level rise
+-- the points after those of a level are sorted
 pub level-rise : {A : Type 0} (programs : Programs A) (n : ℕ) (level : List (Point A)) → AllByRecursion (HasLength n) level → Pairs IsBefore level → Pairs IsBefore (flat_map (successors programs) level)
 level-rise programs n level long rise =
     pairs-flat IsBefore IsBefore (HasLength n) (successors programs) (λ p _. successors-rise programs p)

@@ -13,15 +13,15 @@ use Rattle.acta_explore.specs.declared.search.ExploreError.TheVariants.{TooMany,
 use Rattle.acta_explore.specs.Points.{Point, start, played, order_of, IsEnd, IsEndReached}
 use Rattle.acta_explore.specs.Programs.{Programs}
 
--- the lower seat is first, then the lower alternative
+-- turns are ordered by seat, then by alternative
 abbrev pub turn_cmp : Turn → Turn → Ordering
 turn_cmp t u = ordering_then (nat_cmp t.seat u.seat) (nat_cmp t.alternative u.alternative)
 
--- the shorter order is first; of two of one length, the one whose first differing turn is
+-- orders are sorted by length, then by their first differing turn
 abbrev pub order_cmp : List Turn → List Turn → Ordering
 order_cmp turns others = ordering_then (nat_cmp (length turns) (length others)) (slice_cmp turn_cmp turns others)
 
--- one of the points is related to q, and its order is the one by which q was reached, or an earlier one
+-- one of the points is related to q, and its order is no later than the one by which q was reached
 pub record IsAmong {A : Type 0} (R : Point A → Point A → Type 0) (points : List (Point A)) (turns : List Turn) (q : Point A) : Type 0 where
   pub by : Point A
   pub within : Contains points by
@@ -32,26 +32,26 @@ pub record IsAmong {A : Type 0} (R : Point A → Point A → Type 0) (points : L
 abbrev pub HaveSameOutcome : {A : Type 0} → Programs A → Point A → Point A → Type 0
 HaveSameOutcome programs p q = outcome programs p ≡ outcome programs q
 
--- these are all ends to which programs can go on from the root, without one that is no end: each order of steps that leads
--- from there to an end is accounted for, each outcome is there once, with the first order of all that lead to it, and the
--- ends are in the order of these
+-- exactly the ends that programs can reach from the root, up to equal outcomes: for each order of steps from the root to an
+-- end, there is a point with the same outcome and an order that is no later; no outcome is there twice; and the ends are
+-- sorted by their orders
 pub record AreAllEndsFrom {A : Type 0} (programs : Programs A) (root : Point A) (ends : List (Point A)) : Type 0 where
   pub sound : All (IsEndReached programs root) ends
   pub complete : (turns : List Turn) (q : Point A) → played programs root turns ≡ Some q → IsEnd programs q → IsAmong (HaveSameOutcome programs) ends (order_of root ++ turns) q
   pub distinct : (i j : ℕ) (d : Point A) → i < j → j < length ends → HaveSameOutcome programs (get_or ends i d) (get_or ends j d) → ⊥
   pub in_order : (i j : ℕ) (d : Point A) → i < j → j < length ends → order_cmp (order_of (get_or ends i d)) (order_of (get_or ends j d)) ≡ Less
 
--- the same from the start, on a new machine on the model
+-- the same for a new machine on the model
 abbrev pub AreAllEnds : {A : Type 0} → Programs A → Parts A → List (Point A) → Type 0
 AreAllEnds programs m ends = AreAllEndsFrom programs (start m) ends
 
--- what a search found: the ends, and the outcome of each, in the same order; and how many points it took
+-- the result of a search: the ends, the outcome of each, in the same order, and the number of points searched
 pub record Found (A : Type 0) : Type 0 where
   pub ends : List (Point A)
   pub outcomes : List (Outcome A)
   pub points : ℕ
 
--- more points would have had to be searched than may be
+-- more points would have had to be searched than allowed
 abbrev pub IsOver : ℕ → ExploreError → Type 0
 IsOver most (TooMany points ends) = most < points
 IsOver most Memory = ⊤

@@ -1,4 +1,4 @@
--- Points from which programs go on in the same way.
+-- Points from which programs continue in the same way.
 use Rattle.std.specs.Prelude.{◌≡◌, ℕ, Bool, ◌==◌, List, [], ◌∷◌, filter, length}
 use Rattle.std.specs.List.{list_any}
 use Rattle.acta_table.specs.declared.dep.Edge.{Edge}
@@ -14,7 +14,7 @@ abbrev pub by_line : List ℕ → List HeldOp → List LineOp
 by_line (l ∷ lines) (held ∷ items) = record { line = l; held = held } ∷ by_line lines items
 by_line _ _ = []
 
--- what the machine knows at the point
+-- the machine's summary at the point
 abbrev pub known : {A : Type 0} → Point A → Summary
 known p = summary_of p.state.model p.state.kept
 
@@ -26,16 +26,16 @@ line_ops p = by_line (operated_lines p.steps) (known p).operations
 abbrev pub is_on : ℕ → LineOp → Bool
 is_on ob o = o.held.ob.0 == ob
 
--- the same operations on each object, in the same order; on different objects they may have been done in another
+-- the same operations on each object, in the same order; across objects the order may differ
 abbrev pub AreSameByObject : List LineOp → List LineOp → Type 0
 AreSameByObject xs ys = (ob : ℕ) → filter (is_on ob) xs ≡ filter (is_on ob) ys
 
--- the same edges, whatever their order: each test that one of them passes is passed by one of the others
+-- the same edges in any order: a test that an edge of one list passes, an edge of the other passes
 pub record AreSameEdges (xs ys : List Edge) : Type 0 where
   pub many : length xs ≡ length ys
   pub among : (test : Edge → Bool) → list_any test xs ≡ list_any test ys
 
--- all but the operations and the edges: how many events, statuses, classes, parents and permits
+-- all but the operations and the edges: the number of events, statuses, classes, parents and permits
 abbrev pub without_lists : Summary → Summary
 without_lists s = record s { operations = []; edges = [] }
 

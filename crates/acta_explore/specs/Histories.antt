@@ -1,4 +1,4 @@
--- The point from which programs go on where a machine has kept events: these are lines of seat 0, and all are done.
+-- The point from which programs continue a machine's history: its events are lines of seat 0, all done.
 use Rattle.std.specs.Prelude.{ℕ, ◌+◌, List, [], ◌∷◌, ◌++◌, map}
 use Rattle.acta_table.specs.declared.event.Kept.{Kept}
 use Rattle.acta_script.specs.declared.programs.ProgramLine.{ProgramLine}
@@ -20,10 +20,10 @@ abbrev pub history_steps : {A : Type 0} → ℕ → List (Kept A) → List Step
 history_steps n [] = []
 history_steps n (kept ∷ others) = history_step n kept ∷ history_steps (n + 1) others
 
--- the point at which the lines of the history were done, and no others
+-- the point at which exactly the lines of the history are done
 abbrev pub after_history : {A : Type 0} → State A → Point A
 after_history state = record { steps = history_steps 0 state.kept; state = state }
 
--- programs that go on from there: the lines of the history, and after them those of the seats
+-- programs that continue from there: the lines of the history, followed by those of the seats
 abbrev pub programs_after : {A : Type 0} → State A → Programs A → Programs A
 programs_after state lines = map history_line state.kept ++ lines

@@ -48,7 +48,7 @@ rules_at programs p l = filter_map (rule_at programs p l) (range_with_len 0 (alt
 abbrev pub waits_on : {A : Type 0} → Programs A → Point A → ℕ → ℕ → Waiting
 waits_on programs p seat l = record { seat = seat; line = l; rules = rules_at programs p l }
 
--- where the seat waits, if it is not done
+-- the line at which the seat waits, if it is not done
 abbrev pub waiting_at : {A : Type 0} → Programs A → Point A → ℕ → Option Waiting
 waiting_at programs p seat = option_map (waits_on programs p seat) (next_line programs p.steps seat)
 
@@ -61,26 +61,26 @@ abbrev pub begun_status : (ℕ → Status) → ℕ → Option TxnStatus
 begun_status status t =
     if has_begun (status t) then Some (record { txn = record { 0 = t }; status = status t }) else None
 
--- the order of debts: by the kind's code, then by who owes, then by the other transaction
+-- the order of debts: by the kind's code, then by the owing transaction, then by the other transaction
 abbrev pub debt_cmp : Debt → Debt → Ordering
 debt_cmp = then_cmp (on (λ d. code_of d.kind) nat_cmp) (then_cmp (on (λ d. d.txn.0) nat_cmp) (on (λ d. d.on.0) nat_cmp))
 
--- what is missing where something is owed by an edge of this kind
+-- the event that a debt by an edge of this kind demands
 abbrev pub missing_by : Dep → Missing
 missing_by Scd = Commit
 missing_by Cmd = Commit
 missing_by _ = Abort
 
--- what is owed by an edge: what is missing follows from the kind
+-- the debt of an edge
 abbrev pub debt_by : (ℕ → Status) → Edge → Option Debt
 debt_by status e = option_map (λ missing. record { kind = e.kind; txn = e.j; on = e.i }) (debt_of status e)
 
--- what is owed, in that order, each debt once
+-- the debts, in that order, each once
 abbrev pub debts_of : {A : Type 0} → State A → List Debt
 debts_of state = fold (insert_key debt_cmp) [] (filter_map (debt_by (status_in state)) (edges_in state))
 
--- lines: what each line did; waiting: the seats that are not done; statuses: the transactions that have begun, by
--- number; values: those of the objects, in the order of the model; debts: what is owed
+-- lines: what each line did; waiting: the seats that are not done; statuses: the transactions that have begun, by number;
+-- values: those of the objects, in the order of the model; debts: in their order
 pub record Outcome (A : Type 0) : Type 0 where
   pub lines : List (Option Done)
   pub waiting : List Waiting
@@ -88,7 +88,7 @@ pub record Outcome (A : Type 0) : Type 0 where
   pub values : List (Option (ObjectState A))
   pub debts : List Debt
 
--- the outcome at a point; two runs end the same way where it is the same
+-- the outcome at a point; two runs end the same way if their outcomes are equal
 unfoldable pub outcome : {A : Type 0} → Programs A → Point A → Outcome A
 outcome programs p = record {
   lines = lines_done programs p.steps;

@@ -1,4 +1,4 @@
--- The points that programs can come to, and the steps from one to the next.
+-- The points that programs can reach, and the steps between them.
 use Rattle.std.specs.Prelude.{◌≡◌, ℕ, List, [], ◌∷◌, ◌++◌, map, if◌then◌else◌, Option, Some, None, is_none, option_and_then}
 use Rattle.acta_table.specs.declared.event.Event.{Event}
 use Rattle.acta_table.specs.declared.model.Parts.{Parts}
@@ -7,23 +7,23 @@ use Rattle.acta_explore.specs.declared.point.Step.{Step}
 use Rattle.acta_explore.specs.declared.point.Turn.{Turn}
 use Rattle.acta_explore.specs.Programs.{Programs, next_line, event_at}
 
--- the steps that were taken, in order, and the machine after them
+-- the steps taken, in order, and the machine after them
 pub record Point (A : Type 0) : Type 0 where
   pub steps : List Step
   pub state : State A
 
--- before any step
+-- the point before any step
 abbrev pub start : {A : Type 0} → Parts A → Point A
 start m = record { steps = []; state = fresh m }
 
--- the point after an event of the line at position l, which is admitted
+-- the point after an event of the line at position l that is admitted
 abbrev pub gone_on : {A : Type 0} → Point A → Turn → ℕ → Event A → Point A
 gone_on p turn l e = record {
   steps = p.steps ++ (record { seat = turn.seat; line = l; alternative = turn.alternative; ret = (kept_as p.state e).ret }) ∷ [];
   state = after p.state e;
 }
 
--- the same, unless the event is refused: then the seat waits
+-- the same, if the event is admitted; otherwise the seat waits
 abbrev pub tried : {A : Type 0} → Point A → Turn → ℕ → Event A → Option (Point A)
 tried p turn l e = if is_none (refusal_in p.state e) then Some (gone_on p turn l e) else None
 
@@ -37,7 +37,7 @@ abbrev pub played : {A : Type 0} → Programs A → Point A → List Turn → Op
 played programs p [] = Some p
 played programs p (turn ∷ turns) = option_and_then (λ q. played programs q turns) (stepped programs p turn)
 
--- whose turn a step was
+-- the turn of a step
 abbrev pub turn_of : Step → Turn
 turn_of s = record { seat = s.seat; alternative = s.alternative }
 
@@ -49,7 +49,7 @@ order_of p = map turn_of p.steps
 abbrev pub IsEnd : {A : Type 0} → Programs A → Point A → Type 0
 IsEnd programs p = (turn : Turn) → stepped programs p turn ≡ None
 
--- the turns of the point's order that come after those of the root lead from the root to it
+-- the turns of the point's order after those of the root lead from the root to it
 pub record IsReached {A : Type 0} (programs : Programs A) (root p : Point A) : Type 0 where
   pub turns : List Turn
   pub own : order_of p ≡ order_of root ++ turns

@@ -18,7 +18,7 @@ Programs A = List (ProgramLine A)
 abbrev pub is_of_line : ℕ → Step → Bool
 is_of_line l s = s.line == l
 
--- what a step did: the alternative, and what it returned
+-- what a step did: the alternative, and its return
 abbrev pub done_by : Step → Done
 done_by s = record { alternative = s.alternative; ret = s.ret }
 
@@ -30,13 +30,13 @@ done_at steps l = option_map done_by (find (is_of_line l) steps)
 abbrev pub lines_done : {A : Type 0} → Programs A → List Step → List (Option Done)
 lines_done programs steps = map (done_at steps) (range_with_len 0 (length programs))
 
--- the first line of the seat that was not done, where the first line of the list has the position n
+-- the first line of the seat that is not done; the first line of the list has the position n
 abbrev pub next_from : {A : Type 0} → ℕ → List (ProgramLine A) → List (Option Done) → ℕ → Option ℕ
 next_from n (line ∷ lines) (done ∷ others) seat =
     if (line.seat == seat) && is_none done then Some n else next_from (n + 1) lines others seat
 next_from n _ _ seat = None
 
--- the position of the line that comes next for the seat
+-- the position of the seat's next line
 abbrev pub next_line : {A : Type 0} → Programs A → List Step → ℕ → Option ℕ
 next_line programs steps seat = next_from 0 programs (lines_done programs steps) seat
 
@@ -57,20 +57,20 @@ operation_lines programs = numbers_from has_operation 0 programs
 abbrev pub operated_line : Step → Option ℕ
 operated_line s = option_map (λ ret. s.line) s.ret
 
--- the lines that did operations, in the order of the steps: the n-th of them did the machine's operation n
+-- the lines that did operations, in the order of the steps: the nth did the machine's operation n
 abbrev pub operated_lines : List Step → List ℕ
 operated_lines steps = filter_map operated_line steps
 
--- the number of the operation that a line did; there is none before
+-- the machine's number of the operation that a line did; `None` if it is not done
 abbrev pub number_of_line : List Step → ℕ → Option ℕ
 number_of_line steps l = position_from (λ m. m == l) 1 (operated_lines steps)
 
--- what the operation of this number in the programs is called in the machine: 0, which no operation has, before it is done
+-- the machine's number of the operation with this number in the programs; 0, which no operation has, before it is done
 abbrev pub number_now : {A : Type 0} → Programs A → List Step → OpNo → OpNo
 number_now programs steps op =
     record { 0 = unwrap_or (option_and_then (number_of_line steps) (item_at (operation_lines programs) op.0)) 0 }
 
--- the event, with its operations as the machine numbers them
+-- the event with the machine's numbers of its operations
 abbrev pub event_now : {A : Type 0} → Programs A → List Step → Event A → Event A
 event_now programs steps (Split t u class ops) = Split t u class (each_once (map (number_now programs steps) ops))
 event_now programs steps (Delegate t u ops) = Delegate t u (each_once (map (number_now programs steps) ops))

@@ -1,4 +1,4 @@
--- What the contracts inside the crate cite.
+-- Definitions used only by internal contracts and proofs. The public contracts can be read without them.
 pub mod Circles
 pub mod Debts
 pub mod Keys

@@ -1,4 +1,4 @@
-//! Seats that wait for one another, so that none of them has a step.
+//! Deadlocks: seats that wait for each other, so that none has a step.
 
 ghost use Rattle.std.specs.Prelude.{◌≡◌, ◌-◌, ◌≤◌, ◌==◌, false, true, drop, length, get_or, option_map, IfOk, IfSome, OnOk};
 ghost use Rattle.std.specs.List.{list_any, zip};
@@ -33,7 +33,7 @@ struct Link {
     next: u8,
 }
 
-// A seat that the search reached, and the place of the seat that waits for it among those that it reached earlier.
+// A seat that the search reached, and the index, among the seats reached earlier, of the seat that waits for it.
 #[derive(Clone, Copy)]
 struct Reached {
     seat: u8,
@@ -79,7 +79,7 @@ fn waited_for(reason: Reason) -> Option<TxnId>
     }
 }
 
-// Whether it is this transaction.
+// Whether the transaction found is this one.
 fn is_txn(found: Option<TxnId>, txn: TxnId) -> bool
     ensures { result ≡ is_txn (option_map (λ t. t.0) found) txn.0 }
 {
@@ -89,7 +89,7 @@ fn is_txn(found: Option<TxnId>, txn: TxnId) -> bool
     }
 }
 
-// Whether the transaction goes on by the event: starts by it, if it is new, or else does it.
+// Whether the event advances the transaction: starts it if it is new, otherwise is done by it.
 fn moves<A: Allocator>(event: &Event<A>, txn: TxnId, is_new: bool) -> bool
     ensures { result ≡ moves is_new txn.0 event.now }
 {
@@ -100,14 +100,14 @@ fn moves<A: Allocator>(event: &Event<A>, txn: TxnId, is_new: bool) -> bool
     }
 }
 
-// Whether the transaction goes on by one of the events.
+// Whether one of the events advances the transaction.
 fn some_moves<A: Allocator>(events: &[Event<A>], txn: TxnId, is_new: bool) -> bool
     ensures { result ≡ list_any (moves is_new txn.0) events.now }
 {
     events.iter().any(|event| moves(event, txn, is_new))
 }
 
-// Whether the line is of the seat and was not done, and the transaction goes on by one of its alternatives.
+// Whether the line is one of the seat, not yet done, with an alternative that advances the transaction.
 fn is_left<A: Handle>(
     line: &ProgramLine<A>,
     done: &Option<Done>,
@@ -120,8 +120,8 @@ fn is_left<A: Handle>(
     line.seat == seat && done.is_none() && some_moves(line.alternatives.as_slice(), txn, is_new)
 }
 
-// Whether the transaction goes on by a line of the seat, from this position on, that was not done, where this is what each
-// line did.
+// Whether the seat has a line, from this position on and not yet done, with an alternative that advances the transaction.
+// `done` is what each line did.
 fn has_left<A: Handle>(
     lines: &[ProgramLine<A>],
     done: &[Option<Done>],
@@ -224,7 +224,7 @@ fn waits<A: Handle>(
     Ok(waits)
 }
 
-// The first position of the lines of the seat for which the other can wait.
+// The first position of the lines of `next` for which the waiting seat can wait.
 fn first_for(wait: SeatWait, next: u8) -> Option<usize>
     ensures { IfSome result (λ first. first ≡ first_for wait.seat wait.line next) }
 {
@@ -279,7 +279,7 @@ fn push_links<A: Handle>(
     Ok(())
 }
 
-// The seats that wait, each with those for which it does.
+// The links from each waiting seat to the seats for which it waits.
 fn links<A: Handle>(
     alloc: A,
     plan: &Plan<'_, A>,
@@ -296,7 +296,7 @@ fn links<A: Handle>(
     Ok(links)
 }
 
-// Whether the one seat waits for the other.
+// Whether the first seat waits for the second.
 fn is_linked(links: &[Link], seat: u8, next: u8) -> bool
     ensures { result ≡ is_linked links.now seat next }
 {
@@ -317,7 +317,7 @@ fn is_chain(links: &[Link], chain: &[u8]) -> bool
     true
 }
 
-// Whether the seat is the first of at least two, and the last.
+// Whether the chain has at least two seats, and both the first and the last is this seat.
 fn is_closed(chain: &[u8], seat: u8) -> bool
     ensures long { result ≡ true → 2 ≤ length chain.now }
     ensures begins { result ≡ true → BeginsWith seat chain.now }
@@ -326,7 +326,7 @@ fn is_closed(chain: &[u8], seat: u8) -> bool
     chain.len() >= 2 && chain[0] == seat && chain[chain.len() - 1] == seat
 }
 
-// Adds the seats for which the seat at this place waits, unless the search reached them earlier.
+// Adds the seats for which the seat at this place waits, unless the search has reached them.
 fn reach<A: Allocator>(
     links: &[Link],
     place: usize,
@@ -346,7 +346,7 @@ fn reach<A: Allocator>(
     Ok(())
 }
 
-// The seats by which the search reached the one at this place, from the first on, and then the first again.
+// The seats by which the search reached the seat at this place, from the first on, followed by the first again.
 fn way_by<A: Allocator>(
     alloc: A,
     reached: &[Reached],
@@ -370,7 +370,7 @@ fn way_by<A: Allocator>(
     Ok(way)
 }
 
-// A shortest way from the seat through seats of which each waits for the next, back to it; or nothing.
+// A shortest chain of seats from this seat back to it, each of which waits for the next; empty if there is none.
 fn cycle_back_to<A: Handle>(alloc: A, links: &[Link], seat: u8) -> Result<Vec<u8, A>, AllocError> {
     let mut reached = Vec::new(alloc);
     reached.push(Reached { seat, from: 0 })?;
@@ -388,10 +388,10 @@ fn cycle_back_to<A: Handle>(alloc: A, links: &[Link], seat: u8) -> Result<Vec<u8
     Ok(Vec::new(alloc))
 }
 
-/// A deadlock: seats from `seat` on, each of which waits for the next, where the last is `seat` again. A seat waits for
-/// another where the machine refuses an alternative of its next line until some transaction begins, commits or aborts,
-/// and the other seat still has a line by which that transaction acts or starts. Both can be the same seat: it then waits
-/// for a later line of its own. The search is for a circle of as few seats as possible. `None` where it finds none.
+/// A deadlock: seats from `seat` back to `seat`, each of which waits for the next. A seat waits for another if the machine
+/// refuses an alternative of its next line until some transaction begins, commits or aborts, and the other seat still has a
+/// line by which that transaction acts or starts. Both can be the same seat, which then waits for a later line of its own.
+/// The search looks for a shortest cycle. `None` if it finds none.
 pub fn deadlock<A: Handle>(
     alloc: A,
     plan: &Plan<'_, A>,

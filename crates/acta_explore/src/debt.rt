@@ -1,4 +1,4 @@
-//! What is owed at an end.
+//! The debts at an end.
 
 ghost use Rattle.std.specs.Prelude.{◌≡◌, ℕ, Some};
 ghost use Rattle.std.proofs.Common.{rules};
@@ -15,8 +15,8 @@ use acta_table::{Dep, Missing, TxnId};
 use std::cmp::Ordering;
 use std::hash::{Hash, Hasher};
 
-/// An event that a transaction still owes by a dependency. Debts are ordered by the kind's code, then by the transaction
-/// that owes, then by the other.
+/// An event that a transaction still owes by a dependency. Debts are ordered by the kind's code, then by the owing
+/// transaction, then by the other.
 #[derive(Clone, Copy, Debug)]
 pub struct Debt {
     pub kind: Dep,
@@ -27,7 +27,7 @@ pub struct Debt {
 }
 
 impl Debt {
-    /// The event that is owed, which follows from the kind.
+    /// The event that is owed, determined by the kind.
     pub fn missing(&self) -> Missing
         ensures kind { result ≡ missing_by self.now.kind }
         ensures owed { (status : ℕ → a_status) (e : Edge) → debt_by status e ≡ Some self.now → debt_of status e ≡ Some result }

@@ -1,4 +1,4 @@
-//! What two points are compared by: points with equal keys are equivalent.
+//! The keys of points: points with equal keys are equivalent.
 
 ghost use Rattle.std.specs.Prelude.{◌≡◌, ◌==◌, ℕ, length, filter, get_or, IfOk};
 ghost use Rattle.std.proofs.Common.{rules};
@@ -24,7 +24,7 @@ pub(crate) struct LineOp {
     pub(crate) held: HeldOp,
 }
 
-/// What the machine knows of one transaction.
+/// The machine's record of one transaction.
 #[derive(Clone, Copy, PartialEq, Eq, Debug)]
 pub(crate) struct Txn {
     pub(crate) status: Status,
@@ -32,21 +32,21 @@ pub(crate) struct Txn {
     pub(crate) parent: Option<TxnId>,
 }
 
-/// What a point is compared by.
+/// The key of a point.
 #[derive(Drop)]
 #[derive_where(PartialEq, Eq)]
 pub(crate) struct Key<A: Allocator> {
-    /// A number by which an equal key is found: from what the lines did, and the order of the operations on each object.
+    /// A hash of what the lines did, and of the order of the operations on each object.
     pub(crate) digest: u64,
     /// How many events were admitted.
     pub(crate) kept: usize,
     /// What each line did.
     pub(crate) lines: Vec<Option<Done>, A>,
-    /// What the machine knows of each transaction, by its number.
+    /// The machine's record of each transaction, by its number.
     pub(crate) txns: Vec<Txn, A>,
-    /// The edges in force, in one order.
+    /// The edges in force, in a fixed order.
     pub(crate) edges: Vec<Edge, A>,
-    /// The operations, by their objects.
+    /// The operations, sorted by object.
     pub(crate) operations: Vec<LineOp, A>,
     pub(crate) permits: Vec<Permit, A>,
 }
@@ -63,12 +63,12 @@ impl<A: Allocator> Hash for Key<A> {
     }
 }
 
-// A digest (FNV-1a) with one part more.
+// A digest (FNV-1a) extended by one part.
 fn digested(digest: u64, part: usize) -> u64 {
     (digest ^ part as u64).wrapping_mul(0x100_0000_01b3)
 }
 
-// The number by which an equal key is found.
+// The hash of a key.
 fn digest_of(lines: &[Option<Done>], operations: &[LineOp]) -> u64 {
     let mut digest = 0xcbf2_9ce4_8422_2325;
     for line in lines {
@@ -84,7 +84,7 @@ fn digest_of(lines: &[Option<Done>], operations: &[LineOp]) -> u64 {
     digest
 }
 
-// What the machine knows of each transaction.
+// The machine's record of each transaction.
 fn txns_of<A: Handle>(alloc: A, machine: &Machine<A>) -> Result<Vec<Txn, A>, AllocError>
     ensures { IfOk result (λ txns. (t : ℕ) → get_or txns.items t no_txn ≡ txn_in machine.now t) }
 {
@@ -100,7 +100,7 @@ fn txns_of<A: Handle>(alloc: A, machine: &Machine<A>) -> Result<Vec<Txn, A>, All
     Ok(txns)
 }
 
-// The edges in force, in one order.
+// The edges in force, in a fixed order.
 fn edges_of<A: Handle>(alloc: A, machine: &Machine<A>) -> Result<Vec<Edge, A>, AllocError>
     ensures { IfOk result (λ edges. IsPermutation (edges_in machine.now) edges.items) }
 {
@@ -135,7 +135,7 @@ fn line_ops<A: Allocator>(
     Ok(ops)
 }
 
-// The same, by their objects: those on one object stay in their order.
+// The same, sorted by object; operations on one object keep their order.
 fn operations_of<A: Handle>(alloc: A, point: &Point<A>) -> Result<Vec<LineOp, A>, AllocError>
     ensures { IfOk result (λ ops. (ob : ℕ) → filter (is_on ob) ops.items ≡ filter (is_on ob) (ops_by_line point.now)) }
 {

@@ -1,8 +1,8 @@
-//! Every way in which programs can end. Each seat has a program: lines that it does one after another, each with one or
-//! more alternatives. A seat's step is an alternative of its next line that the machine admits; an event that is refused
-//! waits. `explore` tries every order of the steps, and answers each outcome once, with the first order that leads to it.
-//! Points from which the programs go on in the same way are searched once. A call that allocates returns `Err` if memory
-//! runs out.
+//! Every way in which programs can end. Each seat has a program: lines that it does one after another, each with one or more
+//! alternatives. A seat's step is an alternative of its next line that the machine admits; an event that is refused waits.
+//! `explore` tries every order of the steps, and returns each outcome once, with the first order that leads to it. Points
+//! from which the programs continue in the same way are searched once. A call that allocates returns `Err` if memory runs
+//! out.
 #![tactic(auto)]
 
 mod circle;

@@ -1,4 +1,4 @@
-//! How programs ended: all that two runs that end the same way have in common.
+//! How programs ended: what all runs that end in the same way have in common.
 
 ghost use Rattle.std.specs.Prelude.{◌≡◌, [], fold, length, map, option_map, IfOk};
 ghost use Rattle.std.specs.BTreeSet.{insert_key};
@@ -18,7 +18,7 @@ use acta_table::{Edge, ObjId, Owed, Rule, Status, TxnId};
 use std::alloc::{AllocError, Allocator};
 use std::collections::BTreeSet;
 
-/// Where a seat waits for ever.
+/// A seat that waits for ever, and its line.
 #[derive(Drop)]
 #[derive_where(PartialEq, Eq, Hash)]
 pub struct Wait<A: Allocator> {
@@ -58,7 +58,7 @@ pub struct Outcome<A: Allocator> {
     pub statuses: Vec<TxnStatus, A>,
     /// The values of the objects, in the order of the model.
     pub values: Vec<Option<Value<A>>, A>,
-    /// What is owed, by the code of the kind, by who owes, and by the other transaction.
+    /// The debts, ordered by the kind's code, the owing transaction and the other transaction.
     pub debts: Vec<Debt, A>,
 }
 
@@ -100,7 +100,7 @@ fn rules_at<A: Handle>(
     Ok(rules)
 }
 
-// Where a seat waits, if it is not done. `done` is what each line did.
+// The line at which a seat waits, if it is not done. `done` is what each line did.
 fn waiting_at<A: Handle>(
     alloc: A,
     plan: &Plan<'_, A>,
@@ -165,7 +165,7 @@ fn statuses<A: Handle>(alloc: A, machine: &Machine<A>) -> Result<Vec<TxnStatus, 
     Ok(statuses)
 }
 
-// The value as it is kept in an outcome.
+// The value in the form that an outcome has.
 fn value_of<A: Allocator + Copy>(alloc: A, state: &ObjectState<A>) -> Result<Value<A>, AllocError>
     ensures { IfOk result (λ value. shown_value value ≡ state.now) }
 {
@@ -201,7 +201,7 @@ fn values<A: Handle>(alloc: A, machine: &Machine<A>) -> Result<Vec<Option<Value<
     Ok(values)
 }
 
-// The debt by an edge.
+// The debt of an edge.
 fn debt_of(edges: &[Edge], owed: &Owed) -> Option<Debt>
     ensures { result ≡ debt_among edges.now owed.now }
 {
@@ -213,7 +213,7 @@ fn debt_of(edges: &[Edge], owed: &Owed) -> Option<Debt>
     })
 }
 
-// The debts by these edges, as a set.
+// The debts of these edges, as a set.
 fn debt_set<A: Allocator + Copy>(
     alloc: A,
     edges: &[Edge],
@@ -231,7 +231,7 @@ fn debt_set<A: Allocator + Copy>(
     Ok(debts)
 }
 
-/// What is owed, in order, each debt once.
+/// The debts, in order and each once.
 pub fn debts<A: Handle>(alloc: A, machine: &Machine<A>) -> Result<Vec<Debt, A>, AllocError>
     ensures { IfOk result (λ debts. debts.items ≡ debts_of machine.now) }
 {

@@ -1,4 +1,4 @@
-//! Programs, with what a search looks up in them.
+//! Programs, with the tables that a search needs.
 
 ghost use Rattle.std.specs.Prelude.{◌≡◌, ◌≤◌, ◌++◌, ◌==◌, ◌&&◌, is_none, length, map, None, replicate, IfOk, IfSome, OnOk};
 ghost use Rattle.std.specs.List.{list_any};
@@ -49,7 +49,7 @@ fn is_next<A: Handle>(line: &ProgramLine<A>, done: &Option<Done>, seat: u8) -> b
     line.seat == seat && done.is_none()
 }
 
-// A table for so many lines, of which none was done.
+// A table for this many lines, none of which is done.
 fn undone<A: Allocator>(alloc: A, count: usize) -> Result<Vec<Option<Done>, A>, AllocError>
     ensures { IfOk result (λ table. table.items ≡ replicate count None) }
 {
@@ -193,7 +193,7 @@ impl<'a, A: Handle> Plan<'a, A> {
         Ok(done)
     }
 
-    /// The position of the line that comes next for the seat, where this is what each line did.
+    /// The position of the seat's next line. `done` is what each line did.
     pub(crate) fn next_line(&self, done: &[Option<Done>], seat: u8) -> Option<usize>
         ensures { result ≡ next_from 0 self.now done.now seat }
     {
@@ -208,7 +208,7 @@ impl<'a, A: Handle> Plan<'a, A> {
         None
     }
 
-    // Puts the turns of a seat behind the others: one for each alternative of its next line.
+    // Appends the turns of a seat: one for each alternative of its next line.
     fn push_turns(
         &self,
         done: &[Option<Done>],
@@ -226,7 +226,7 @@ impl<'a, A: Handle> Plan<'a, A> {
         Ok(())
     }
 
-    /// The turns that may be tried, where this is what each line did: by seat, and then by alternative.
+    /// The turns that may be tried, by seat and then by alternative. `done` is what each line did.
     pub(crate) fn turns(&self, alloc: A, done: &[Option<Done>]) -> Result<Vec<Turn, A>, AllocError>
         ensures { IfOk result (λ turns. turns.items ≡ turns_at self.now done.now) }
     {
@@ -237,8 +237,8 @@ impl<'a, A: Handle> Plan<'a, A> {
         Ok(turns)
     }
 
-    /// The position of the line whose operation the programs name by this number, from 1: the number counts the lines
-    /// that contain a `do`, in order. `None` for a number that names no line.
+    /// The position of the line whose operation has this number in the programs. They number the lines that contain a `do`,
+    /// in order from 1. `None` if no line has the number.
     pub fn operation_line(&self, op: OpNo) -> Option<usize>
         ensures { result ≡ item_at (operation_lines self.now) op.0 }
     {
@@ -248,7 +248,7 @@ impl<'a, A: Handle> Plan<'a, A> {
         self.operation_lines.get(op.0 as usize - 1).copied()
     }
 
-    // What the machine calls the operation of this number in the programs.
+    // The machine's number for the operation of this number in the programs.
     fn number_now(&self, steps: &[Step], op: OpNo) -> OpNo
         requires { length steps.now ≤ MOST_EVENTS }
         ensures { result ≡ number_now self.now steps.now op }
@@ -262,7 +262,7 @@ impl<'a, A: Handle> Plan<'a, A> {
         }
     }
 
-    // The same of each of these operations.
+    // The same for each of these operations.
     fn numbers_now(&self, alloc: A, steps: &[Step], ops: &OpSet<A>) -> Result<OpSet<A>, AllocError>
         requires { length steps.now ≤ MOST_EVENTS }
         ensures { IfOk result (λ set. set ≡ each_once (map (number_now self.now steps.now) ops.now)) }
@@ -274,7 +274,7 @@ impl<'a, A: Handle> Plan<'a, A> {
         OpSet::of(alloc, numbers.as_slice())
     }
 
-    // The event, with its operations as the machine numbers them.
+    // The event with the machine's numbers of its operations.
     fn event_now(&self, alloc: A, steps: &[Step], event: &Event<A>) -> Result<Event<A>, AllocError>
         requires { length steps.now ≤ MOST_EVENTS }
         ensures { IfOk result (λ copy. copy ≡ event_now self.now steps.now event.now) }
@@ -299,8 +299,8 @@ impl<'a, A: Handle> Plan<'a, A> {
         }
     }
 
-    /// The event of an alternative of a line, both by their positions from 0, with its operations as the machine at the
-    /// point numbers them. `None` where there is no such line or alternative.
+    /// The event of an alternative of a line, both by their positions from 0, with the operation numbers of the machine at
+    /// the point. `None` if there is no such line or alternative.
     pub fn event_at(
         &self,
         alloc: A,

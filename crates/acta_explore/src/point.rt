@@ -1,4 +1,4 @@
-//! A point that programs can come to: the steps that were taken, and the machine after them.
+//! A point that programs can reach: the steps taken, and the machine after them.
 
 ghost use Rattle.std.specs.Prelude.{◌≡◌, ◌≤◌, length, map, IfOk};
 ghost use Rattle.acta_table.specs.declared.limits.TheConstants.{MOST_EVENTS};
@@ -13,7 +13,7 @@ use acta_script::ProgramLine;
 use acta_table::{Answer, Event, Items, Kept, Model, Ret};
 use std::alloc::AllocError;
 
-/// Whose turn it is, and which alternative of the seat's next line is tried.
+/// A seat, and the alternative of its next line that is tried.
 #[derive(Clone, Copy, PartialEq, Eq, Debug)]
 pub struct Turn {
     pub seat: u8,
@@ -29,7 +29,7 @@ pub struct Step {
     pub line: usize,
     /// The alternative of that line, from 0.
     pub alternative: usize,
-    /// What the event returned, if it is an operation.
+    /// The event's return, if it is an operation.
     pub ret: Option<Ret>,
 }
 
@@ -38,7 +38,7 @@ pub struct Step {
 pub struct Done {
     /// The alternative that happened, from 0.
     pub alternative: usize,
-    /// What the event returned, if it is an operation.
+    /// The event's return, if it is an operation.
     pub ret: Option<Ret>,
 }
 
@@ -54,7 +54,7 @@ impl Step {
     }
 }
 
-/// A point that programs can come to. Contracts see the steps, and the model and the history of the machine.
+/// A point that programs can reach. Contracts see the steps, and the model and the history of the machine.
 #[derive(Drop)]
 pub struct Point<A: Handle> {
     steps: Vec<Step, A>,
@@ -75,7 +75,7 @@ impl<A: Handle> std::marker::Model for Point<A> {
     } };
 }
 
-// The line of seat 0 that does the event alone.
+// The line of seat 0 whose only alternative is the event.
 fn history_line<A: Handle>(alloc: A, kept: &Kept<A>) -> Result<ProgramLine<A>, AllocError>
     ensures { IfOk result (λ line. line ≡ history_line kept.now) }
 {
@@ -87,8 +87,8 @@ fn history_line<A: Handle>(alloc: A, kept: &Kept<A>) -> Result<ProgramLine<A>, A
     })
 }
 
-/// The events that the machine has kept as lines of programs: lines of seat 0, an event each. Programs that go on after
-/// them have them in front.
+/// The machine's history as lines of programs: lines of seat 0 with one event each. Programs that continue from the history
+/// have these lines in front.
 pub fn history_lines<A: Handle>(
     alloc: A,
     machine: &Machine<A>,
@@ -120,7 +120,7 @@ fn history_steps<A: Handle>(alloc: A, history: &[Kept<A>]) -> Result<Vec<Step, A
 }
 
 impl<A: Handle> Point<A> {
-    /// Before any step.
+    /// The point before any step.
     pub(crate) fn start(alloc: A, model: &Model<A>) -> Result<Point<A>, AllocError>
         ensures { IfOk result (λ point. point ≡ start model.now) }
     {
@@ -128,8 +128,7 @@ impl<A: Handle> Point<A> {
         Point::after(alloc, &machine)
     }
 
-    /// The point from which programs go on after the events that a machine has kept: the lines of `history_lines` were
-    /// done, and no others.
+    /// The point from which programs continue a machine's history: exactly the lines of `history_lines` are done.
     pub fn after(alloc: A, machine: &Machine<A>) -> Result<Point<A>, AllocError>
         ensures { IfOk result (λ point. point ≡ after_history machine.now) }
     {
@@ -148,14 +147,14 @@ impl<A: Handle> Point<A> {
         self.steps.as_slice()
     }
 
-    /// The machine after them.
+    /// The machine after these steps.
     pub fn machine(&self) -> &Machine<A>
         ensures { result.now ≡ self.now.state }
     {
         &self.machine
     }
 
-    /// The same point, in memory of its own.
+    /// A copy of the point in memory of its own.
     pub fn copy(&self, alloc: A) -> Result<Point<A>, AllocError>
         ensures { IfOk result (λ point. point ≡ self.now) }
     {
@@ -164,22 +163,22 @@ impl<A: Handle> Point<A> {
         Ok(Point { steps, machine })
     }
 
-    /// Does nothing: a proof learns from the call that there are at most `MOST_EVENTS` steps.
+    /// Proves that there are at most `MOST_EVENTS` steps. Does nothing at run time.
     pub(crate) fn lemma_few(&self)
         ensures { length self.now.steps ≤ MOST_EVENTS }
     {
         self.machine.history();
     }
 
-    /// Does nothing: a proof learns from the call that each step did a line of its own, and that the machine has as many
-    /// operations as lines that did one.
+    /// Proves that each step did a line of its own, and that the machine has as many operations as lines that did one. Does
+    /// nothing at run time.
     pub(crate) fn lemma_numbered(&self)
         ensures { IsNumbered self.now }
     {
         self.machine.history();
     }
 
-    // The point after an event of a line, if the event is admitted. No step did the line.
+    // The point after an event of a line that no step has done, if the event is admitted.
     fn try_event(
         &self,
         alloc: A,

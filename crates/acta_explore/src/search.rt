@@ -1,5 +1,5 @@
-//! The search through all orders of steps, one level after another: a level has the points that are as many steps from the
-//! root, in the order of their first orders.
+//! The search through all orders of steps, level by level: a level has the points that are equally many steps from the root,
+//! in the order of their first orders.
 
 ghost use Rattle.std.specs.Prelude.{◌≡◌, ◌<◌, ◌≤◌, ◌∷◌, [], length, map, not, option_map, slice_get, IfOk, IfErr, IfSome, OnOk};
 ghost use Rattle.std.specs.List.{flat_map};
@@ -27,7 +27,7 @@ use std::hash::{BuildHasherDefault, FoldHasher};
 /// Why there is no answer.
 #[derive(Clone, Copy, PartialEq, Eq, Debug)]
 pub enum ExploreError {
-    /// More points would have to be searched than may be: so many points and ends were found.
+    /// More points would have to be searched than allowed. Has the numbers of points and ends found so far.
     TooMany { points: u64, ends: usize },
     Memory,
 }
@@ -46,7 +46,7 @@ type Level<A> = IndexMap<Key<A>, Point<A>, BuildHasherDefault<FoldHasher>, A>;
 // The ends that were found, by their outcomes.
 type Ends<A> = IndexMap<Outcome<A>, Point<A>, BuildHasherDefault<FoldHasher>, A>;
 
-// Puts a point to those of a level, unless one with the same key is there; answers whether it was put.
+// Adds a point to a level, unless the level has one with the same key. Returns whether it was added.
 fn put<A: Handle>(
     plan: &Plan<'_, A>,
     level: &mut Level<A>,
@@ -67,7 +67,7 @@ fn put<A: Handle>(
     Ok(true)
 }
 
-// Puts an end to the others, unless one with the same outcome is there.
+// Adds an end, unless there is one with the same outcome.
 fn put_end<A: Handle>(
     plan: &Plan<'_, A>,
     ends: &mut Ends<A>,
@@ -88,7 +88,7 @@ fn put_end<A: Handle>(
     Ok(())
 }
 
-// Puts what the steps from a point lead to to the next level, and answers whether there is a step.
+// Adds the points after each step from a point to the next level. Returns whether there is a step.
 fn expand<A: Handle>(
     alloc: A,
     plan: &Plan<'_, A>,
@@ -114,7 +114,7 @@ fn expand<A: Handle>(
     Ok(has_step)
 }
 
-// Goes on from a point: puts what its steps lead to to the next level, or the point to the ends if it has no step.
+// Expands a point into the next level, or adds it to the ends if it has no step.
 fn settle<A: Handle>(
     alloc: A,
     plan: &Plan<'_, A>,
@@ -136,9 +136,9 @@ fn settle<A: Handle>(
     put_end(plan, ends, found, point.copy(alloc)?)
 }
 
-// The points that one step more leads to from those of the level. Those of the level that have no step are put to the
-// ends. `Err` with how many points were found, where they are more than `room`, and with nothing if memory runs out.
-// `before` is how many points were found earlier.
+// The points one step after those of the level. Points of the level without a step are added to the ends. Returns `Err` with
+// the number of points found if they are more than `room`, or without a number if memory runs out. `before` points were
+// found earlier.
 fn next_level<A: Handle, W: Watch>(
     alloc: A,
     plan: &Plan<'_, A>,
@@ -175,7 +175,7 @@ fn next_level<A: Handle, W: Watch>(
     Ok(next)
 }
 
-// The root alone.
+// The level with only the root.
 fn first_level<A: Handle>(
     alloc: A,
     plan: &Plan<'_, A>,
@@ -223,7 +223,7 @@ impl<A: Handle> Explored<A> {
         self.points
     }
 
-    /// The end at this place, from 0: a shorter first order comes first.
+    /// The end at this place, from 0, in the order of their first orders.
     pub fn end(&self, place: usize) -> Option<&Point<A>>
         ensures { option_map (λ point. point.now) result ≡ slice_get self.now.ends place }
     {
@@ -240,10 +240,10 @@ impl<A: Handle> Explored<A> {
     }
 }
 
-/// Every way in which programs can end, whatever the order of their steps, on a new machine on the model. Each outcome is
-/// answered once, with the first order that leads to it: a shorter order is first, and of two of one length the one whose
-/// first differing step is by the lower seat, or by the lower alternative. `TooMany` if more than `most` points would have
-/// to be searched. `watch` learns how far the search is each time that all steps from a point were tried.
+/// Every way in which programs can end, in whatever order of their steps, on a new machine on the model. Each outcome is
+/// returned once, with the first order that leads to it: the shorter order, and among equally long ones the one whose first
+/// different step has the lower seat, then the lower alternative. Returns `TooMany` if more than `most` points would have to
+/// be searched. `watch` is called with the progress after all steps from a point were tried.
 pub fn explore<A: Handle, W: Watch>(
     alloc: A,
     model: &Model<A>,
@@ -260,9 +260,9 @@ pub fn explore<A: Handle, W: Watch>(
     explore_from(alloc, &start, lines, most, watch)
 }
 
-/// Every way in which programs can end that go on from this point, as `explore` answers it for a new machine. `lines` has
-/// the lines that were done by then, too: see `Point::after` for the point after a machine's history. An order begins with
-/// the steps of the point.
+/// Every way in which programs can end from this point, as `explore` finds them for a new machine. `lines` includes the
+/// lines that are done at the point: see `Point::after` for the point after a machine's history. Each order begins with the
+/// steps of the point.
 pub fn explore_from<A: Handle, W: Watch>(
     alloc: A,
     root: &Point<A>,

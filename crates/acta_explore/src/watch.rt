@@ -1,15 +1,15 @@
-//! How a caller follows a search.
+//! A callback for the progress of a search.
 
-/// Learns how far a search is.
+/// Is called with the progress of a search.
 pub trait Watch {
-    /// So many points were found so far, and so many ends.
+    /// This many points and ends were found so far.
     fn found(&mut self, points: u64, ends: usize);
 
     /// The search is over, and its answer comes next. `explore` leaves this call to its caller.
     fn end(&mut self);
 }
 
-/// Ignores how far the search is.
+/// Ignores the progress.
 impl Watch for () {
     fn found(&mut self, _points: u64, _ends: usize) {}
 

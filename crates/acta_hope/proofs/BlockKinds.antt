@@ -1,4 +1,4 @@
--- An edge that blocks an event blocks it later too, while its transactions stand as they did.
+-- An edge that blocks an event also blocks it later, while the statuses of its transactions stay the same.
 use Rattle.std.proofs.Common.{◌≡◌, ℕ, zero, suc, ◌+◌, ◌≤◌, Bool, true, false, List, [], ◌∷◌, ◌++◌, fold, Option, Some, None, refl, sym, ap, ◌∙◌, subst, arith}
 use Rattle.std.specs.Prelude.{if◌then◌else◌, slice_get}
 use Rattle.std.specs.List.{AllByRecursion, position_from}
@@ -129,7 +129,7 @@ abort-by A u s r broken =
     )
     broken
 
--- which edge it is that blocks an event
+-- the edge that blocks an event
 pub dependency-by : {A : Type 0} (e : Event A) (s : Summary) (r : Refusal) → dependency s e ≡ Some r → IsByUnlessClash e s r r.rule
 dependency-by {A} (Begin t class) s r broken = start-by {A = A} (Begin t class) s r (λ l. refl) broken
 dependency-by {A} (Spawn t c class) s r broken = start-by {A = A} (Spawn t c class) s r (λ l. refl) broken
@@ -152,7 +152,7 @@ at-least test k (x ∷ es) n e = of (test x) e (at-least test (k + 1) es n)
     of true e later = let same = same_Some k n e in omega (arith, same)
     of false e later = let more = later e in omega (arith, more)
 
--- the first that passes is one that passes
+-- the first edge that passes is one that passes
 passes-from : {X : Type 0} (test : X → Bool) (k : ℕ) (es : List X) (i : ℕ) (f : X) → position_from test k es ≡ Some (k + i) → slice_get es i ≡ Some f → test f ≡ true
 passes-from test k [] i f e at = absurd (cc)
 passes-from test k (x ∷ es) zero f e at = of (test x) refl e (λ h. at-least test (k + 1) es (k + 0) h)
@@ -172,7 +172,7 @@ pub passes : {X : Type 0} (test : X → Bool) (es : List X) (n : ℕ) (f : X) �
 passes test es zero f e at = absurd (cc)
 passes test es (suc i) f e at = let same : suc i ≡ 1 + i = omega arith in passes-from test 1 es i f (e ∙ ap Some same) at
 
--- where none passes this one does not
+-- if no edge passes, this one does not
 fails-from : {X : Type 0} (test : X → Bool) (k : ℕ) (es : List X) (i : ℕ) (f : X) → position_from test k es ≡ None → slice_get es i ≡ Some f → test f ≡ false
 fails-from test k [] i f e at = absurd (cc)
 fails-from test k (x ∷ es) zero f e at = of (test x) refl e
@@ -200,7 +200,7 @@ pub item-more : (es more : List Edge) (n : ℕ) (f : Edge) → item_at es n ≡ 
 item-more es more zero f e = absurd (cc)
 item-more es more (suc i) f e = got-more es more i f e
 
--- the edge that blocks an event passes the test of the rule, and fails it where the event is admitted
+-- the edge that blocks an event passes the test of the rule, and fails it when the event is admitted
 pub passed-then-failed : {A : Type 0} (e : Event A) (s : Summary) (rule : Rule) (n : ℕ) (f : Edge) → IsBy e s (record { rule = rule; by = Some n }) rule → item_at s.edges n ≡ Some f →
     (edge_test e rule s.status f ≡ true) × ((l : Summary) → IsLater s l → dependency l e ≡ None → edge_test e rule l.status f ≡ false)
 passed-then-failed e s rule n f by at = (

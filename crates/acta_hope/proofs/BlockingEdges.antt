@@ -1,4 +1,4 @@
--- What hope there is where an edge in force blocks an event.
+-- The hope if an edge in force blocks an event.
 use Rattle.std.proofs.Common.{◌≡◌, ℕ, Bool, true, false, ◌==◌, ◌&&◌, not, Some, None, refl, sym, ap, ◌∙◌, eqb-true}
 use Rattle.std.proofs.lemmas.Bool.{true≢false, and_parts, not-false}
 use Rattle.acta_table.specs.declared.answer.Refusal.{Refusal}
@@ -29,7 +29,7 @@ use Rattle.acta_hope.specs.Rulings.{IsBrokenBy}
 use Rattle.acta_hope.proofs.BlockKinds.{dependency-by, passed-then-failed}
 use Rattle.acta_hope.proofs.Hopes.{Only, Not}
 
--- the one that the rules on dependencies ask about stands the same where the event breaks none of the earlier rules
+-- the transaction whose edges the rules on dependencies check keeps its status, if the event breaks no earlier rule
 subject-same : {A : Type 0} (m : Parts A) (s l : Summary) (e : Event A) (r : Refusal) → dependency s e ≡ Some r → earlier_broken m s e ≡ None → earlier_broken m l e ≡ None → l.status (subject e) ≡ s.status (subject e)
 unfolding not_in_progress already_begun
 subject-same m s l (Begin t class) r broken a b = not_begun l AlreadyBegun t.0 (unbroken m l (Begin t class) b).begun ∙ sym (not_begun s AlreadyBegun t.0 (unbroken m s (Begin t class) a).begun)
@@ -91,7 +91,7 @@ aborted-since : (kind : Dep) (x y : Status) → awaits_abort kind x ≡ true →
 aborted-since Bad x y is e = is_aborted y (not-false (has_aborted y) e)
 aborted-since _ x y is e = cc
 
--- by what an edge blocks in these ways has ended
+-- in these cases the transaction by which the edge blocks has ended
 
 owed-commit : (kind : Dep) (i j : Status) → is_commit (debt_by kind i j) ≡ true → has_ended i ≡ true
 owed-commit kind Committed j e = refl
@@ -159,14 +159,14 @@ module _ {A : Type 0} (m : Parts A) (s : Summary) (e : Event A) (n : ℕ) (f : E
   abbrev refusal : Rule → Refusal
   refusal rule = record { rule = rule; by = Some n }
 
-  -- the test of the rule is passed now, and failed where the event is admitted
+  -- the test of the rule passes now, and fails when the event is admitted
   abbrev Turns : Rule → Type 0
   Turns rule = (edge_test e rule s.status f ≡ true) × Only m s e (λ l. edge_test e rule l.status f ≡ false)
 
   turns : (rule : Rule) → IsBy e s (refusal rule) rule → Turns rule
   turns rule by = let both = passed-then-failed e s rule n f by at in (both.0, λ l later none. both.1 l later (none-dependency m l e none))
 
-  -- so it is never where the test stays as it is
+  -- so the event is never admitted if the test's result never changes
   stuck : (rule : Rule) → Turns rule → ((l : Summary) → IsLater s l → lowest_broken m l e ≡ None → edge_test e rule l.status f ≡ edge_test e rule s.status f) → Not m s e
   stuck rule turn same l later none = true≢false (sym turn.0 ∙ sym (same l later none) ∙ turn.1 l later none)
 
@@ -179,7 +179,7 @@ module _ {A : Type 0} (m : Parts A) (s : Summary) (e : Event A) (n : ℕ) (f : E
   abbrev Broken : Rule → Type 0
   Broken rule = IsBrokenBy m s e (refusal rule) rule
 
-  -- the dependent one is the one that the event is about, and stands as it did
+  -- the dependent transaction is the event's, and keeps its status
   party-stays : (r : Refusal) → dependency s e ≡ Some r → earlier_broken m s e ≡ None → (f.j.0 == subject e) ≡ true → (l : Summary) → lowest_broken m l e ≡ None → l.status f.j.0 ≡ s.status f.j.0
   party-stays r broken fine is l none =
       let same = eqb-true f.j.0 (subject e) is in
@@ -239,7 +239,7 @@ module _ {A : Type 0} (m : Parts A) (s : Summary) (e : Event A) (n : ℕ) (f : E
       let parts = and_parts (f.j.0 == subject e) (awaits_abort f.kind (s.status f.i.0)) turn.0 in
       aborted-since f.kind (s.status f.i.0) (l.status f.i.0) parts.1 (right-false (f.j.0 == subject e) (awaits_abort f.kind (l.status f.i.0)) parts.0 (turn.1 l later none))
 
-  -- where an edge blocks, something is said
+  -- the hope is known if an edge blocks
   pub blocked-reported : (rule : Rule) → may_be_unreported rule (s.status f.j.0) (s.status f.i.0) ≡ true → Broken rule → is_of_edge rule ≡ false
   blocked-reported OwesAbort may b =
       let turn = turns OwesAbort (dependency-by e s (refusal OwesAbort) b.0) in
@@ -261,7 +261,7 @@ module _ {A : Type 0} (m : Parts A) (s : Summary) (e : Event A) (n : ℕ) (f : E
   blocked-reported WeakBegin may b = absurd (true≢false (sym may))
   blocked-reported _ may b = refl
 
-  -- the edge that is named is one by which the rule blocks the event
+  -- the rule blocks the event by the named edge
   pub blocked-force : (rule : Rule) → is_of_edge rule ≡ true → Broken rule → edge_test e rule s.status f ≡ true
   blocked-force BeginDep is b = (turns BeginDep (dependency-by e s (refusal BeginDep) b.0)).0
   blocked-force SerialDep is b = (turns SerialDep (dependency-by e s (refusal SerialDep) b.0)).0

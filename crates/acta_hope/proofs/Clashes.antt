@@ -1,4 +1,4 @@
--- What hope there is where a transaction would owe both a commit and an abort.
+-- The hope if a transaction would owe both a commit and an abort.
 use Rattle.std.proofs.Common.{◌≡◌, ℕ, zero, suc, Bool, true, false, ◌==◌, ◌&&◌, ◌||◌, not, List, [], ◌∷◌, map, filter, Option, Some, None, refl, sym, ap, ◌∙◌, subst, ◌⊎◌, inl, inr, eqb-true}
 use Rattle.std.specs.Prelude.{if◌then◌else◌, slice_get}
 use Rattle.std.specs.List.{list_any}
@@ -43,7 +43,7 @@ use Rattle.acta_hope.proofs.Growth.{summary_in}
 use Rattle.acta_hope.proofs.Hopes.{Only, only-later, never-later, none-smallest}
 use Rattle.acta_hope.proofs.Rulings.{found, is-broken}
 
--- where nobody owes both, nobody owes a commit by one edge and an abort by another
+-- if no transaction owes both, none owes a commit by one edge and an abort by another
 
 filtered-none : (p : Edge → Bool) (es : List Edge) (k : ℕ) (f : Edge) → map (λ (e : Edge). e.j.0) (filter p es) ≡ [] → slice_get es k ≡ Some f → p f ≡ false
 filtered-none p [] k f none at = absurd (cc)
@@ -72,7 +72,7 @@ not-both status es (suc n) (suc k) f g none at_f at_g same commit abort =
     and_from (is_commit (debt_of status f)) (list_any (owes_abort status f.j.0) es) (ap is_commit commit) (any-at (owes_abort status f.j.0) es k g at_g owes) in
     true≢false (sym by ∙ filtered-none (clashes_by status es) es n f (none-smallest _ none) at_f)
 
--- the rule Unpayable refuses an event by which one that has ended would owe what it did not do
+-- the rule Unpayable refuses an event after which an ended transaction would owe what it did not do
 
 only-committed : (y : Status) → (has_aborted y || has_joined y) ≡ false → has_ended y ≡ true → y ≡ Committed
 only-committed Committed can ended = refl
@@ -97,7 +97,7 @@ paid-commit Scd j y missing owed can ended = only-committed y can ended ∙ ap p
 paid-commit Ed j y missing owed can ended = only-aborted y can ended ∙ ap paid (missing-is _ abort_due missing owed)
 paid-commit _ j y missing owed can ended = absurd (cc)
 
--- it has paid, or the edge asks nothing of one that has committed
+-- it has paid, or the edge demands nothing of a committed transaction
 abbrev Settled : Dep → Missing → Status → Type 0
 Settled kind missing y = (y ≡ paid missing) ⊎ ((is_wd kind ≡ true) × (y ≡ Committed))
 
@@ -111,7 +111,7 @@ paid-abort Wd j y missing owed can ended =
 paid-abort Cmd j y missing owed can ended = inl (only-committed y can ended ∙ ap paid (missing-is _ commit_due missing owed))
 paid-abort _ j y missing owed can ended = absurd (cc)
 
--- what is so wherever an event is admitted that is refused by the clash
+-- what holds wherever an event is admitted that the clash refuses now
 abbrev pub Remains : Summary → ClashEdges → Summary → Type 0
 Remains s c l = (is_wd c.abort.edge.kind ≡ true) × (has_ended (s.status c.abort.edge.i.0) ≡ false) × (l.status c.commit.edge.j.0 ≡ Committed)
 
@@ -125,7 +125,7 @@ is_abort-due (Some abort_due) e = refl
 is_abort-due (Some commit_due) e = absurd (true≢false (sym e))
 is_abort-due None e = absurd (true≢false (sym e))
 
--- where t, which has not ended, is to stand so
+-- the case that t, which has not ended, gets this status
 module _ (s l : Summary) (later : IsLater s l) (t : ℕ) (x : Status) (new : has_ended (s.status t) ≡ false) where
   abbrev now : ℕ → Status
   now = with_status s.status t x
@@ -141,7 +141,7 @@ module _ (s l : Summary) (later : IsLater s l) (t : ℕ) (x : Status) (new : has
   at-later : (n : ℕ) (f : Edge) → item_at s.edges n ≡ Some f → item_at l.edges n ≡ Some f
   at-later n f at = ap (λ es. item_at es n) later.edges.1 ∙ item-more s.edges later.edges.0 n f at
 
-  -- what would be owed now would be owed later, unless the one that owes it has ended
+  -- a debt that would arise now would also arise later, unless the owing transaction has ended
   owed-then : (f : Edge) (missing : Missing) → debt_of now f ≡ Some missing → has_ended (then_ f.j.0) ≡ false → debt_of then_ f ≡ Some missing
   owed-then f missing owed still =
       let parts = debt-parts f.kind (now f.i.0) (now f.j.0) missing owed in
@@ -156,7 +156,7 @@ module _ (s l : Summary) (later : IsLater s l) (t : ℕ) (x : Status) (new : has
       begun true is = is
       begun false is = later.begun f.j.0 is
 
-  -- one that has ended since has paid, or the edge is on t
+  -- a transaction that has ended since has paid, or the edge is on t
   abbrev Cleared : Edge → Missing → Type 0
   Cleared f missing = (l.status f.j.0 ≡ paid missing) ⊎ ((is_wd f.kind ≡ true) × ((f.i.0 == t) ≡ true) × (l.status f.j.0 ≡ Committed))
 
@@ -194,7 +194,7 @@ module _ (s l : Summary) (later : IsLater s l) (t : ℕ) (x : Status) (new : has
     abort-owed : debt_of now g ≡ Some abort_due
     abort-owed = is_abort-due (debt_of now g) of-g.1
 
-    -- the one that owes both is not t
+    -- the transaction that owes both is not t
     another : (b : Bool) → (f.j.0 == t) ≡ b → has_ended (if b then x else l.status f.j.0) ≡ true → (f.j.0 == t) ≡ false
     another true is ended =
         let open_now : has_ended x ≡ false =
@@ -262,7 +262,7 @@ abort-remains s l t c later new so none =
     (none-passes-at (is_awaited cannot_pay_abort l.status t) l.edges n f (by_none Unpayable _ all.1.1.0) (at-later s l later t Aborted new n f at)))
     ended)
 
--- one that joins another brings nobody to owe both
+-- a join makes no transaction owe both
 join-clear : (s : Summary) (t : ℕ) (r : Refusal) → join_refusal s.status s.edges t ≡ Some r → r.rule ≡ Clash → ⊥
 unfolding join_refusal owing_abort owing_commit
 join-clear s t r broken =
@@ -319,7 +319,7 @@ of-clash {A} state e c i hope is stands why = of hope is
         (only-later state e (λ l. l.status c.commit.edge.j.0 ≡ Committed) (λ l later none. (only l later none).2))
     of _ is = absurd is
 
--- something is said
+-- the hope is known
 pub reported-clash : (c : ClashEdges) (i : Status) (hope : Hope) → IsOfClash c i hope → hope ≡ Unknown → ⊥
 reported-clash c i Unknown is same = is
 reported-clash c i _ is same = cc

@@ -1,4 +1,4 @@
--- As many edges are in force after some are formed, where there were more before.
+-- If there were more edges in force before, there are as many after some edges are formed.
 use Rattle.std.proofs.Common.{◌≡◌, ◌≤◌, ◌+◌, suc, Bool, true, false, ◌==◌, ◌&&◌, ◌||◌, List, [], ◌∷◌, ◌++◌, length, refl, sym, ap, ◌∙◌, inl, inr, ◌⊎◌, eq-eqb, eqb-true, append_assoc, length-append, arith}
 use Rattle.std.specs.Prelude.{if◌then◌else◌}
 use Rattle.std.proofs.lemmas.Bool.{true≢false, and_parts, or_cases}
@@ -38,7 +38,7 @@ pub right-true : (a b : Bool) → b ≡ true → (a || b) ≡ true
 right-true true b is = refl
 right-true false b is = is
 
--- one that is the same as one of them is among them
+-- an edge equal to one of them is among them
 among-same : (es : List Edge) (f g : Edge) → same_edge g f ≡ true → is_among es f ≡ true → is_among es g ≡ true
 among-same [] f g same is = is
 among-same (x ∷ es) f g same is =
@@ -70,7 +70,7 @@ among-either (x ∷ es) fs g is =
 one : (f g : Edge) → is_among (f ∷ []) g ≡ true → same_edge g f ≡ true
 one f g is = elim (or_cases (same_edge g f) false is) [ inl a ↦ a | inr b ↦ absurd (true≢false (sym b)) ]
 
--- all but the first that is the same
+-- all but the first equal one
 abbrev rest : Edge → List Edge → List Edge
 rest f [] = []
 rest f (x ∷ xs) = if same_edge f x then xs else x ∷ rest f xs
@@ -147,13 +147,13 @@ pub among-right : (es fs : List Edge) (g : Edge) → is_among fs g ≡ true → 
 among-right [] fs g is = is
 among-right (x ∷ es) fs g is = right-true (same_edge g x) (is_among (es ++ fs) g) (among-right es fs g is)
 
--- what is in force stays so
+-- an edge in force stays in force
 among-still : (es due : List Edge) (g : Edge) → is_among es g ≡ true → is_among (formed es due) g ≡ true
 among-still es due g is =
     let more = edges-formed es due in
     ap (λ xs. is_among xs g) more.1 ∙ among-left es more.0 g is
 
--- an edge that is to be formed is in force then
+-- an edge that is formed is in force afterwards
 among-with : (es : List Edge) (f g : Edge) → same_edge g f ≡ true → is_among (with_edge es f) g ≡ true
 among-with es f g same = of (is_among es f) refl
   where
@@ -169,7 +169,7 @@ among-formed es (f ∷ due) g is =
       | inr there ↦ among-formed (with_edge es f) due g there
     ]
 
--- where all of them are in force, none is formed
+-- if all of them are in force, none is formed
 formed-there : (es due : List Edge) → ((g : Edge) → is_among due g ≡ true → is_among es g ≡ true) → formed es due ≡ es
 formed-there es [] all = refl
 formed-there es (f ∷ due) all =

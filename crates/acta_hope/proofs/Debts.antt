@@ -1,4 +1,4 @@
--- What is owed by an edge, while the one that owes has not ended.
+-- The debt of an edge while the owing transaction has not ended.
 use Rattle.std.proofs.Common.{◌≡◌, Bool, true, false, ◌&&◌, Some, sym, ap, ◌∙◌, refl}
 use Rattle.std.proofs.lemmas.Bool.{true≢false}
 use Rattle.std.proofs.lemmas.Option.{same_Some}
@@ -37,7 +37,7 @@ on-open : (j : Status) → is_in_progress j ≡ true → has_ended j ≡ false
 on-open InProgress e = refl
 on-open _ e = absurd (true≢false (sym e))
 
--- where something is owed, the one on which the edge is has ended, and the one that owes has not
+-- if an edge has a debt, its i has ended, and its j has not
 pub debt-parts : (kind : Dep) (i j : Status) (missing : Missing) → debt_by kind i j ≡ Some missing → (has_ended i ≡ true) × (has_ended j ≡ false)
 debt-parts Scd i j missing e = let p = both (has_committed i) (may_end j) Commit missing e in (committed-ended i p.0, open-on j p.1)
 debt-parts Ad i j missing e = let p = both (has_aborted i) (may_end j) Abort missing e in (aborted-ended i p.0, open-on j p.1)
@@ -57,7 +57,7 @@ still-on InProgress InProgress is later e = refl
 still-on InProgress _ is later e = absurd (true≢false e)
 still-on _ k is later e = absurd (true≢false (sym is))
 
--- it is owed until that one ends
+-- it is owed until that transaction ends
 pub debt-later : (kind : Dep) (i j k : Status) (missing : Missing) → debt_by kind i j ≡ Some missing → (has_begun j ≡ true → has_begun k ≡ true) → has_ended k ≡ false → debt_by kind i k ≡ Some missing
 debt-later Scd i j k missing e later on =
     let p = both (has_committed i) (may_end j) Commit missing e in

@@ -1,4 +1,4 @@
--- A summary with the effect of an event comes after the summary, and so on for later events.
+-- The summary after an event is later than the summary before it, and so on for more events.
 use Rattle.std.proofs.Common.{◌≡◌, ◌+◌, ℕ, suc, zero, Bool, true, false, ◌==◌, ◌&&◌, List, [], ◌∷◌, ◌++◌, map, Option, Some, None, refl, sym, ap, ◌∙◌, subst, ◌⊎◌, inl, inr, append_assoc, eqb-true, arith}
 use Rattle.std.specs.Prelude.{if◌then◌else◌, slice_get}
 use Rattle.std.proofs.lemmas.Bool.{true≢false}
@@ -153,7 +153,7 @@ begun-stays status t x begun u is = of (u == t)
 
 -- debts
 
--- where t starts, what is owed stays owed
+-- when t starts, debts remain
 owed-started : (status : ℕ → Status) (t : ℕ) (f : Edge) (missing : Missing) → status t ≡ NotBegun → debt_of status f ≡ Some missing → debt_of (with_status status t InProgress) f ≡ Some missing
 owed-started status t f missing new owed =
     let parts = debt-parts f.kind (status f.i.0) (status f.j.0) missing owed in
@@ -164,12 +164,12 @@ owed-started status t f missing new owed =
     of true = debt-later f.kind (status f.i.0) (status f.j.0) InProgress missing owed (λ is. refl) refl
     of false = owed
 
--- by its new status t has done what it owed
+-- with its new status t has paid its debt
 abbrev Pays : Summary → ℕ → Status → Type 0
 Pays s t x =
     (n : ℕ) (f : Edge) (missing : Missing) → item_at s.edges n ≡ Some f → (f.j.0 == t) ≡ true → debt_of s.status f ≡ Some missing → x ≡ paid missing
 
--- where t ends and pays, what others owe stays owed
+-- when t ends and pays, the debts of others remain
 owed-ended : (s : Summary) (t : ℕ) (x : Status) → s.status t ≡ InProgress → Pays s t x → (n : ℕ) (f : Edge) (missing : Missing) → item_at s.edges n ≡ Some f → debt_of s.status f ≡ Some missing →
     (debt_of (with_status s.status t x) f ≡ Some missing) ⊎ (with_status s.status t x f.j.0 ≡ paid missing)
 owed-ended s t x on pays n f missing at owed = of (f.j.0 == t) refl
@@ -181,7 +181,7 @@ owed-ended s t x on pays n f missing at owed = of (f.j.0 == t) refl
     of true is = inr (pays n f missing at is owed)
     of false is = inl (ap (λ i. debt_by f.kind i (s.status f.j.0)) stays ∙ owed)
 
--- one that may commit, abort or join another pays
+-- a transaction that may commit, abort or join another pays
 
 none-abort : (s : Summary) (t : ℕ) → owing_abort s.status s.edges t ≡ None → (n : ℕ) (f : Edge) → item_at s.edges n ≡ Some f → (f.j.0 == t) ≡ true → debt_of s.status f ≡ Some abort_due → ⊥
 unfolding owing_abort

@@ -1,4 +1,4 @@
--- An operation whose holder can't let it go is held by it for ever.
+-- An operation whose holder can't release it is held by it for ever.
 use Rattle.std.proofs.Common.{◌≡◌, ℕ, zero, suc, ◌+◌, Bool, true, false, ◌==◌, ◌&&◌, ◌||◌, not, List, [], ◌∷◌, ◌++◌, map, Option, Some, None, is_some, refl, sym, ap, ◌∙◌, subst, inl, inr, eqb-true, eq-eqb, arith}
 use Rattle.std.specs.Prelude.{if◌then◌else◌, option_and_then, option_map, slice_get}
 use Rattle.std.specs.List.{AllByRecursion, list_any}
@@ -47,13 +47,13 @@ use Rattle.acta_hope.proofs.Hopes.{held-then, is_something, only-later}
 use Rattle.acta_hope.proofs.LettingGo.{mapped-at, moved-got, not-eqb}
 use Rattle.acta_hope.proofs.Standing.{has-stays, conflict-gone, conflict-stands}
 
--- what a class may not do its transactions don't
+-- a transaction does no event that its class does not allow
 
 allowed : {A : Type 0} (m : Parts A) (s : Summary) (e : Event A) → lowest_broken m s e ≡ None → is_allowed m s e ≡ true
 unfolding not_in_model
 allowed m s e none = not_broken (is_allowed m s e) NotInModel (unbroken m s e (none-earlier m s e none)).model
 
--- so the one that does it is another
+-- so another transaction does it
 apart : {A : Type 0} (m : Parts A) (s : Summary) (h u : ℕ) (k : EventKind) → txn_may m s h k ≡ false → txn_may m s u k ≡ true → h ≡ u → ⊥
 apart m s h u k lacks may same = true≢false (sym may ∙ ap (λ x. txn_may m s x k) (sym same) ∙ lacks)
 
@@ -86,7 +86,7 @@ added-stays : (is js : List HeldOp) (n : ℕ) (i : HeldOp) → operation_at is n
 added-stays is js zero i at = cc
 added-stays is js (suc k) i at = got-before is js k i at
 
--- what is so of all numbers that are named
+-- a property of all named numbers
 of-all : (Q : ℕ → Type 0) (ops : List OpNo) (n : ℕ) → AllByRecursion Q (numbers_of ops) → is_named ops n ≡ true → Q n
 of-all Q [] n all named = cc
 of-all Q (o ∷ ops) n all named =
@@ -95,7 +95,7 @@ of-all Q (o ∷ ops) n all named =
       | inr there ↦ of-all Q ops n all.1 there
     ]
 
--- an event names it only where the one that acts holds it
+-- an event names it only if the acting transaction holds it
 not-named : {A : Type 0} (m : Parts A) (s : Summary) (e : Event A) (u n : ℕ) (i : HeldOp) → lowest_broken m s e ≡ None → acting e ≡ Some u → operation_at s.operations n ≡ Some i → (i.holder.0 == u) ≡ false → is_named (operations_named e) n ≡ false
 not-named m s e u n i none acts at other = of (is_named (operations_named e) n) refl
   where
@@ -127,7 +127,7 @@ not-true false e = refl
 unpermitted-of : (a b c d e f : Bool) → (a && b && c && not d && e && f) ≡ true → d ≡ false
 unpermitted-of a b c d e f is = not-true d (and_parts (a && b && c) (not d) (and_parts (a && b && c && not d) e (and_parts (a && b && c && not d && e) f is).0).0).1
 
--- what its class lets the holder not do
+-- the events that the holder's class does not allow
 record Lacks {A : Type 0} (m : Parts A) (s : Summary) (h : ℕ) : Type 0 where
   begun : has_begun (s.status h) ≡ true
   commit : txn_may m s h kind.Commit ≡ false
@@ -252,7 +252,7 @@ module _ {A : Type 0} (n : ℕ) (i : HeldOp) (t : ℕ) where
 exempt-none : {A : Type 0} (m : Parts A) (s : Summary) (t : ℕ) → has_class (λ k. exempts k.scope) m s t ≡ false → exempt m s t ≡ []
 exempt-none m s t is = λ k. if is k then ancestors_of s t else []
 
--- an operation that stands in the way, and whose holder holds on, stands there for ever
+-- an operation that blocks the event, and whose holder can't release it, blocks it for ever
 pub held-on : {A : Type 0} (state : State A) (t : TxnId) (ob : ObjId) (op : Op) (n : ℕ) (i : HeldOp) →
     operation_at (summary_in state).operations n ≡ Some i → stands_against state.model (summary_in state) t.0 ob op i ≡ true → (summary_in state).status t.0 ≡ InProgress →
     is_held_on state.model (summary_in state) (event.Operate t ob op) i.holder.0 ≡ true →

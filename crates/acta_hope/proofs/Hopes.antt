@@ -1,4 +1,4 @@
--- What no later events change, rule by rule.
+-- Statements that no later events change, rule by rule.
 use Rattle.std.proofs.Common.{◌≡◌, ◌≤◌, ◌<◌, ℕ, suc, zero, Bool, true, false, ◌==◌, ◌&&◌, not, List, [], ◌∷◌, ◌++◌, filter, length, min, Option, Some, None, is_some, is_none, refl, sym, ap, ◌∙◌, subst, inl, inr, arith}
 use Rattle.std.specs.Prelude.{if◌then◌else◌, option_and_then, nat_lt, slice_get}
 use Rattle.std.specs.List.{AllByRecursion, list_any}
@@ -49,7 +49,7 @@ use Rattle.acta_hope.proofs.Counting.{formed-more}
 use Rattle.acta_hope.proofs.Growth.{summary_in, model-after_all, later-after_all, operation-later, IsThereLater}
 use Rattle.acta_hope.proofs.Rulings.{none-full}
 
--- it is admitted only where this holds, at whatever comes later
+-- the event is admitted only under this condition, after any later events
 abbrev pub Only : {A : Type 0} → Parts A → Summary → Event A → (Summary → Type 0) → Type 0
 Only m s e P = (l : Summary) → IsLater s l → lowest_broken m l e ≡ None → P l
 
@@ -68,7 +68,7 @@ is_something (Some x) never = refl
 pub never-later : {A : Type 0} (state : State A) (e : Event A) → Not state.model (summary_in state) e → IsHopeless state e
 never-later state e not es = is_something (refusal_in (after_all state es) e) (only-later state e (λ l. ⊥) not es)
 
--- what a broken rule tells
+-- what a broken rule implies
 
 pub if_some : (b : Bool) (rule : Rule) (r : Refusal) → broken_if b rule ≡ Some r → b ≡ true
 if_some true rule r e = refl
@@ -114,7 +114,7 @@ module _ {A : Type 0} (m : Parts A) (s : Summary) (e : Event A) where
   not-formed (BadOperation ob op) broken l later none = let u = (rules_none l none).operation in cc
   not-formed (SameTransaction t) broken l later none = let u = (rules_none l none).same in cc
 
-  -- one that has ended is never in progress again
+  -- an ended transaction is never in progress again
   ended-never : (t : ℕ) → has_ended (s.status t) ≡ true → ((l : Summary) → lowest_broken m l e ≡ None → l.status t ≡ InProgress) → Not m s e
   ended-never t ended on l later none = ended-on (s.status t) ended (sym (later.ended t ended) ∙ on l none)
 
@@ -151,7 +151,7 @@ module _ {A : Type 0} (m : Parts A) (s : Summary) (e : Event A) where
   pub once-partner : (t : ℕ) → partner_not_in_progress s e ≡ Some (record { rule = PartnerNotInProgress; by = Some t }) → Only m s e (λ l. has_begun (l.status t) ≡ true)
   once-partner t broken = begun-then t (partner-on t broken)
 
-  -- one that has begun never has not
+  -- a transaction that has begun never counts as not begun again
   pub not-started : (t : ℕ) → already_begun s e ≡ Some (record { rule = AlreadyBegun; by = Some t }) → Not m s e
   unfolding already_begun
   not-started t broken l later none =
@@ -162,7 +162,7 @@ module _ {A : Type 0} (m : Parts A) (s : Summary) (e : Event A) where
 
   -- classes
 
-  -- what the class of one that has begun allows, it allows later too
+  -- what the class of a begun transaction allows, it allows later too
   may-later : (l : Summary) → IsLater s l → (t : ℕ) (kind : EventKind) → has_begun (s.status t) ≡ true → txn_may m l t kind ≡ txn_may m s t kind
   may-later l later t kind begun = ap (λ c. option_map_or (can_do kind) (option_and_then (λ k. class_at m k.0) c) false) (later.class t begun)
 
@@ -181,7 +181,7 @@ forms-before m s e l later t may = of (forms_none m s t) refl
     of true none = absurd (true≢false (sym may ∙ ap not (forms-later m s e l later t none)))
     of false none = refl
 
--- what the classes allow later they allow now, where the one that acts is in progress
+-- whatever the classes allow later they allow now, if the acting transaction is in progress
 allowed-before : {A : Type 0} (m : Parts A) (s : Summary) (e : Event A) → not_in_progress s e ≡ None → (l : Summary) → IsLater s l → is_allowed m l e ≡ true → is_allowed m s e ≡ true
 unfolding not_in_progress
 allowed-before m s (Begin t class) on l later is = is
@@ -198,7 +198,7 @@ allowed-before m s (Commit t) on l later is = sym (may-acting m s (Commit t) l l
 allowed-before m s (Abort t) on l later is = sym (may-acting m s (Abort t) l later t.0 abort_kind (in_progress s NotInProgress t.0 on)) ∙ is
 allowed-before m s (Permit t u ob) on l later is = sym (may-acting m s (Permit t u ob) l later t.0 permit_kind (in_progress s NotInProgress t.0 on)) ∙ is
 
--- what the classes do not allow they never do
+-- the classes never allow what they do not allow now
 pub not-allowed : {A : Type 0} (m : Parts A) (s : Summary) (e : Event A) (r : Refusal) → (not_in_model m s e ≡ Some r) × (not_in_progress s e ≡ None) → Not m s e
 unfolding not_in_model
 not-allowed m s e r broken l later none =
@@ -235,7 +235,7 @@ lesser Q n k a b =
       | inr le ↦ let same : k ≡ min n k = omega arith in subst Q same b
     ]
 
--- what is so of all is so of the smallest
+-- a property of all numbers holds of the smallest
 of-smallest : (Q : ℕ → Type 0) (ns : List ℕ) (n : ℕ) → AllByRecursion Q ns → smallest ns ≡ Some n → Q n
 of-smallest Q [] n all e = absurd (cc)
 of-smallest Q (k ∷ ns) n all e = of (smallest ns) e (λ p. of-smallest Q ns p all.1)
@@ -244,7 +244,7 @@ of-smallest Q (k ∷ ns) n all e = of (smallest ns) e (λ p. of-smallest Q ns p 
     of None e rest = subst Q (same_Some _ _ e) all.0
     of (Some p) e rest = subst Q (same_Some _ _ e) (lesser Q k p all.0 (rest p refl))
 
--- the smallest of those named that fail a test now, where those named all pass another later
+-- the smallest of the named numbers that fail a test now, if all named numbers pass another later
 of-named : (Q : ℕ → Type 0) (test : ℕ → Bool) (ops : List OpNo) (n : ℕ) → AllByRecursion Q (numbers_of ops) → smallest (filter test (numbers_of ops)) ≡ Some n → Q n
 of-named Q test ops n all e = of-smallest Q (filter test (numbers_of ops)) n (all-filter Q test (numbers_of ops) all) e
 
@@ -253,7 +253,7 @@ and_then_some f None y e = absurd (cc)
 and_then_some f (Some x) y e = (x, (refl, e))
 
 module _ {A : Type 0} (m : Parts A) (s : Summary) (e : Event A) where
-  -- where it is admitted, the one that acts holds all that is named
+  -- if it is admitted, the acting transaction holds all named operations
   pub held-then : (t : ℕ) → acting e ≡ Some t → (l : Summary) → lowest_broken m l e ≡ None → AllByRecursion (λ n. option_map_or (is_held t) (operation_at l.operations n) false ≡ true) (numbers_of (operations_named e))
   unfolding not_responsible bad_set
   held-then t acts l none =
@@ -265,7 +265,7 @@ module _ {A : Type 0} (m : Parts A) (s : Summary) (e : Event A) where
   unfolding not_responsible
   named-of-another n broken = and_then_some (not_held s (operations_named e)) (acting e) n (by_some NotResponsible _ n broken)
 
-  -- it is admitted only where the one that acts holds the operation
+  -- it is admitted only if the acting transaction holds the operation
   pub once-held : (t n : ℕ) → acting e ≡ Some t → not_responsible s e ≡ Some (record { rule = NotResponsible; by = Some n }) → Only m s e (λ l. option_map_or (is_held t) (operation_at l.operations n) false ≡ true)
   once-held t n acts broken l later none =
       let found = named-of-another n broken in
@@ -288,7 +288,7 @@ module _ {A : Type 0} (m : Parts A) (s : Summary) (e : Event A) where
   unfolding bad_set
   named-unknown n broken = by_some BadSet _ n broken
 
-  -- so where there is no such operation yet
+  -- so if there is no such operation yet
   pub once-there : (t n : ℕ) → acting e ≡ Some t → bad_set s e ≡ Some (record { rule = BadSet; by = Some n }) → Only m s e (λ l. option_map_or (is_held t) (operation_at l.operations n) false ≡ true)
   once-there t n acts broken l later none =
       of-named (λ k. option_map_or (is_held t) (operation_at l.operations k) false ≡ true) (λ k. is_none (operation_at s.operations k)) (operations_named e) n (held-then t acts l none) (named-unknown n broken)
@@ -305,7 +305,7 @@ module _ {A : Type 0} (m : Parts A) (s : Summary) (e : Event A) where
   unfolding full
   room l later none = leb-false MOST_EVENTS l.kept (if_none _ Full (none-full m l e (none-earlier m l e none)))
 
--- one that names operations acts
+-- an event that names operations has an acting transaction
 acting-named : {A : Type 0} (s : Summary) (e : Event A) (n : ℕ) → unknown_in s (operations_named e) ≡ Some n → acting e ≡ None → ⊥
 acting-named s (Split t u class ops) n named none = cc
 acting-named s (Delegate t u ops) n named none = cc
@@ -354,7 +354,7 @@ never-there {A} state e n outside broken es = is_something (refusal_in (after_al
 
 -- edges that come too late
 
--- one that has not ended later has not ended now
+-- a transaction that has not ended later has not ended now
 not-ended : (s l : Summary) → IsLater s l → (t : ℕ) → has_ended (l.status t) ≡ false → has_ended (s.status t) ≡ false
 not-ended s l later t still = of (has_ended (s.status t)) refl
   where
@@ -395,12 +395,12 @@ not-late m s (Permit t u ob) n broken l later none = cc
 
 -- heirs
 
--- one in progress keeps its heir
+-- a transaction in progress keeps its heir
 heir-later : {A : Type 0} (m : Parts A) (s l : Summary) → IsLater s l → (t : ℕ) → s.status t ≡ InProgress → heir_of m l t ≡ heir_of m s t
 heir-later m s l later t on =
     λ i. if option_map_or (λ k. has_heir k.at_commit) (option_and_then (λ c. class_at m c.0) (later.class t (ap has_begun on) i)) false then later.parent t (ap has_begun on) i else None
 
--- where it is admitted, the parent is in progress
+-- if the event is admitted, the parent is in progress
 heir-on : {A : Type 0} (m : Parts A) (s : Summary) (e : Event A) (n : ℕ) → no_heir m s e ≡ Some (record { rule = NoHeir; by = Some n }) → earlier_broken m s e ≡ None → Only m s e (λ l. l.status n ≡ InProgress)
 unfolding no_heir not_in_progress
 heir-on m s (Commit t) n broken fine l later none =

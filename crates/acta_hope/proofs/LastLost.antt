@@ -1,4 +1,4 @@
--- The last edges by which transactions never begin, as they are noted edge by edge.
+-- The last edges that keep transactions from ever beginning, as they are noted edge by edge.
 use Rattle.std.proofs.Common.{◌≡◌, ◌<◌, ◌≤◌, ℕ, zero, suc, ◌+◌, Bool, true, false, ◌==◌, List, length, Some, refl, sym, ap, ◌∙◌, subst, inl, inr, eqb-true, eq-eqb, arith}
 use Rattle.std.specs.Prelude.{◌≢◌, get_or, set, unwrap_or}
 use Rattle.std.proofs.lemmas.Bool.{true≢false, cases_lt}
@@ -10,7 +10,7 @@ use Rattle.acta_table.specs.Numbered.{item_at}
 use Rattle.acta_hope.specs.Starts.{is_lost_by, AreLast, AreNamed}
 use Rattle.acta_hope.proofs.NeverBegun.{zeros, zero-at}
 
--- what holds of the list of so many transactions, once the edges up to this number are noted
+-- a property of the list of this many transactions, after the edges up to this number are noted
 pub record AreNoted (most : ℕ) (size : ℕ) (status : ℕ → Status) (edges : List Edge) (lost : List ℕ) : Type 0 where
   pub long : length lost ≡ size
   pub named : AreNamed status edges lost
@@ -28,7 +28,7 @@ same-item : (edges : List Edge) (n m : ℕ) (e f : Edge) → n ≡ m → item_at
 same-item edges n m e f same one other = ap (λ o. unwrap_or o f) (sym one ∙ ap (item_at edges) same ∙ other)
 
 module _ (size : ℕ) (status : ℕ → Status) (edges : List Edge) (most : ℕ) (f : Edge) (lost : List ℕ) (at : item_at edges (most + 1) ≡ Some f) (old : AreNoted most size status edges lost) where
-  -- an edge that isn't this one was noted before, where it is among those up to this one
+  -- another edge up to this number was noted before
   earlier : (number : ℕ) (e : Edge) → number ≤ most + 1 → item_at edges number ≡ Some e → ((e ≡ f) → ⊥) → number ≤ most
   earlier number e low got other =
       elim (cases_lt number (most + 1)) [

@@ -1,4 +1,4 @@
--- Right after the holder of an operation has let it go, the operation stands in the way no longer.
+-- Right after its holder has released it, the operation no longer blocks the event.
 use Rattle.std.proofs.Common.{◌≡◌, ◌<◌, ℕ, zero, suc, ◌+◌, ◌-◌, Bool, true, false, ◌==◌, ◌&&◌, ◌||◌, not, List, [], ◌∷◌, ◌++◌, map, Option, Some, None, refl, sym, ap, ◌∙◌, subst, inl, inr, eqb-true, eq-eqb, arith}
 use Rattle.std.specs.Prelude.{if◌then◌else◌, option_map, slice_get}
 use Rattle.std.specs.Option.{option_map_or}
@@ -111,7 +111,7 @@ ended-closed fate closed i = of (i.holder.0 == i.holder.0) (is_open i.fate) (sam
     of true false own is = is
     of false b own is = cc
 
--- one that it has handed over is held by the other, if it is in progress
+-- an operation that was delegated has the new holder, if it is in progress
 transferred-then : (P : HeldOp → Type 0) (u : TxnId) (i : HeldOp) → (is_open i.fate ≡ false → P i) → P (record i { holder = u }) → P (transferred_op i.holder.0 u i)
 transferred-then P u i over held = of (i.holder.0 == i.holder.0) (is_open i.fate) (same_number i.holder.0) refl
   where
@@ -169,7 +169,7 @@ exempt-more true n parent o u is = let same : suc n ≡ n + 1 = omega arith in a
 exempt-more false n parent o u is = cc
 
 module _ {A : Type 0} (m : Parts A) (s : Summary) (t : TxnId) (ob : ObjId) (op : Op) (n : OpNo) (i : HeldOp) (at : operation_at s.operations n.0 ≡ Some i) where
-  -- the operation stands in the way no longer
+  -- the operation no longer blocks the event
   abbrev IsGone : Summary → Type 0
   IsGone l = option_map_or (stands_against m l t.0 ob op) (operation_at l.operations n.0) false ≡ false
 
@@ -183,7 +183,7 @@ module _ {A : Type 0} (m : Parts A) (s : Summary) (t : TxnId) (ob : ObjId) (op :
       at-off m l t.0 ob op n.0 (transferred_op i.holder.0 u i) (ap (λ ops. operation_at ops n.0) is ∙ mapped-at (transferred_op i.holder.0 u) s.operations n.0 i at)
       (transferred-then (λ j. stands_against m l t.0 ob op j ≡ false) u i (closed-off m l t.0 ob op i) off)
 
-  -- after a commit of the holder, where its heir is this one
+  -- after a commit of the holder, if its heir is this transaction
   abbrev left_to : Option TxnId → Summary
   left_to heir = counted (settled (terminated (linked s []) i.holder has_committed) i.holder heir)
 
@@ -220,7 +220,7 @@ module _ {A : Type 0} (m : Parts A) (s : Summary) (t : TxnId) (ob : ObjId) (op :
       (permitted-off m (effect m s (event.Permit i.holder t i.ob)) t.0 ob op i
       (right-true (s.permits i.holder.0 t.0 i.ob.0) ((i.holder.0 == i.holder.0) && (t.0 == t.0) && (i.ob.0 == i.ob.0)) (λ k. same_number i.holder.0 k && same_number t.0 k && same_number i.ob.0 k)))
 
-  -- by each way
+  -- for each release
   pub released : (release : Release) (r : Event A) → may_release m s t.0 i.holder.0 release ≡ true → IsRelease t n i release r → IsGone (effect m s r)
   released Commit r may is =
       subst (λ (e : Event A). IsGone (effect m s e)) (sym is) (commit-gone (and_parts (txn_may m s i.holder.0 kind.Commit) (frees_at_commit m s t.0 i.holder.0) may).1)

@@ -1,4 +1,4 @@
--- A transaction of which an edge blocks the start for ever never begins.
+-- A transaction with an edge that blocks its start for ever never begins.
 use Rattle.std.proofs.Common.{◌≡◌, ◌<◌, ◌≤◌, ℕ, zero, suc, ◌+◌, Bool, true, false, ◌==◌, ◌&&◌, List, [], ◌∷◌, length, Option, Some, None, refl, sym, ap, ◌∙◌, subst, ◌⊎◌, inl, inr, eqb-true, eq-eqb, arith}
 use Rattle.std.specs.Prelude.{if◌then◌else◌, get_or, replicate, set, slice_get}
 use Rattle.std.proofs.lemmas.Bool.{true≢false, and_parts, cases_lt}
@@ -29,7 +29,7 @@ use Rattle.acta_hope.proofs.BlockKinds.{none-all, none-passes-at, item-more}
 use Rattle.acta_hope.proofs.Growth.{summary_in, later-after}
 use Rattle.acta_hope.proofs.Waits.{settled-status}
 
--- one of the three rules asks for what can't be any more
+-- one of the three rules demands what has become impossible
 awaits : (kind : Dep) (x : Status) → bars_start kind x ≡ true → (awaits_end kind x ≡ true) ⊎ ((awaits_commit kind x ≡ true) ⊎ (awaits_abort kind x ≡ true))
 awaits Sd Joined is = inl refl
 awaits Bcd Joined is = inr (inl refl)
@@ -53,7 +53,7 @@ off true true is_a is_b e = cc
 off true false is_a is_b e = cc
 off false b is_a is_b e = cc
 
--- a transaction starts only where no edge blocks that for ever
+-- a transaction starts only if no edge blocks its start for ever
 start-blocked : (s : Summary) (t n : ℕ) (f : Edge) → start_refusal s.status s.edges t ≡ None → item_at s.edges n ≡ Some f → f.j.0 ≡ t → bars_start f.kind (s.status f.i.0) ≡ true → ⊥
 unfolding start_refusal serial_dep begin_on_commit begin_on_abort
 start-blocked s t n f none at same blocks =
@@ -106,7 +106,7 @@ blocked-ended Bad InProgress is = cc
 blocked-ended _ x is = absurd (true≢false (sym is))
 
 module _ (n : ℕ) (f : Edge) where
-  -- the edge is in force, the one that depends has not begun, and the edge blocks its start for ever
+  -- the edge is in force, its j has not begun, and it blocks the start of j for ever
   record IsLost (s : Summary) : Type 0 where
     at : item_at s.edges n ≡ Some f
     new : s.status f.j.0 ≡ NotBegun
@@ -140,7 +140,7 @@ is_unbegun : (x : Status) → is_new x ≡ true → x ≡ NotBegun
 is_unbegun NotBegun is = refl
 is_unbegun _ is = cc
 
--- by an edge that blocks its start for ever, a transaction never begins
+-- a transaction with an edge that blocks its start for ever never begins
 pub never-begins : {A : Type 0} (state : State A) (n : ℕ) (f : Edge) → item_at (summary_in state).edges n ≡ Some f → is_lost_by (summary_in state).status f ≡ true → NeverBegins state f.j.0
 never-begins {A} state n f at is =
     let parts = and_parts (is_new ((summary_in state).status f.j.0)) (bars_start f.kind ((summary_in state).status f.i.0)) is in
@@ -159,7 +159,7 @@ lost-set state lost t number low old new u noted = of (u == t) refl
 abbrev pub zeros : ℕ → List ℕ
 zeros n = replicate n 0
 
--- each is 0 where all are
+-- each is 0 if all are
 pub zero-at : (n t : ℕ) → get_or (zeros n) t 0 ≡ zero
 zero-at n t =
     elim (cases_lt t n) [
@@ -167,11 +167,11 @@ zero-at n t =
       | inr high ↦ get_or_past (zeros n) t 0 (subst (λ k. k ≤ t) (sym (length-replicate n zero)) high)
     ]
 
--- none is noted where all are 0
+-- none is noted if all are 0
 pub none-lost : {A : Type 0} (state : State A) (lost : List ℕ) (n : ℕ) → lost ≡ replicate n 0 → AreLost state lost
 none-lost state lost n is t noted = absurd (noted (ap (λ xs. get_or xs t 0) is ∙ zero-at n t))
 
--- the edge at a place has the number that is one more
+-- the edge at a place has the number of the place plus one
 pub edge-at : (es : List Edge) (place number : ℕ) (f : Edge) → number ≡ place + 1 → slice_get es place ≡ Some f → item_at es number ≡ Some f
 edge-at es place number f is at =
     let same : suc place ≡ number = omega (arith, is) in

@@ -1,4 +1,4 @@
--- Each reason, with the hope that there is.
+-- Each reason with its hope.
 use Rattle.std.proofs.Common.{◌≡◌, ℕ, true, false, Some, None, sym, ap, ◌∙◌, subst, ◌⊎◌, inl, inr}
 use Rattle.std.specs.Option.{option_map_or}
 use Rattle.std.proofs.lemmas.Bool.{true≢false}
@@ -33,7 +33,7 @@ use Rattle.acta_hope.proofs.Rulings.{is-broken}
 use Rattle.acta_hope.proofs.HeldOn.{held-never}
 use Rattle.acta_hope.proofs.Standing.{conflict-gone, conflict-stands, fewer-then, left-let-go, whole-acts}
 
--- the reasons that no later event takes away, whatever they name
+-- the reasons that no later event removes, whatever they name
 abbrev pub IsFinal : Reason → Type 0
 IsFinal Full = Unit {0}
 IsFinal (Form fault) = Unit {0}
@@ -157,7 +157,7 @@ module _ {A : Type 0} (state : State A) (e : Event A) where
   force (Blocked b) why = λ is. blocked-force state.model s e b.by.number b.by.edge why.so.0 b.rule is (broken (Blocked b) why)
   force _ why = tt
 
-  -- of these reasons something is said
+  -- for these reasons the hope is known
 
   off : (t : TxnId) (status : Status) (hope : Hope) → IsOfBegun t status hope → hope ≡ Unknown → is_in_progress status ≡ false → ⊥
   off t status Unknown is same stands = true≢false (sym (ap is_in_progress is) ∙ stands)

@@ -35,13 +35,13 @@ found-from P r (x ∷ xs) (Some y) f g e = found-from P r xs (Some y) f (λ n. a
 pub found : (P : Type 0) (r : Refusal) (xs : List (Option Refusal)) → Cases P r xs → first_of xs ≡ Some r → P
 found P r xs cases e = found-from P r xs None (λ n. absurd (cc)) (λ n. cases) e
 
--- where no rule is broken the first of some is not
+-- if no rule is broken, the first of some is not
 pub none-from : (z : Option Refusal) (xs : List (Option Refusal)) → fold option_or z xs ≡ None → z ≡ None
 none-from None xs e = refl
 none-from (Some r) [] e = cc
 none-from (Some r) (x ∷ xs) e = none-from (Some r) xs e
 
--- where none of the rules before that on conflicts is broken, the one that acts is in progress
+-- if no rule before the one on conflicts is broken, the acting transaction is in progress
 none-acting : {A : Type 0} (m : Parts A) (s : Summary) (e : Event A) → broken_before_conflict m s e ≡ None → not_in_progress s e ≡ None
 none-acting m s e none =
     (or_none (first_of (full s ∷ bad_number e ∷ bad_class m e ∷ bad_object m e ∷ bad_operation m e ∷ same_transaction e ∷ [])) (not_in_progress s e)

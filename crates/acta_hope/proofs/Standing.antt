@@ -1,4 +1,4 @@
--- What stands in the way of an operation: it is admitted only where that no longer does.
+-- An event is admitted only if no operation blocks it any more.
 use Rattle.std.proofs.Common.{◌≡◌, ◌≤◌, ◌<◌, ℕ, zero, suc, Bool, true, false, ◌+◌, ◌==◌, ◌&&◌, ◌||◌, not, List, [], ◌∷◌, ◌++◌, map, filter, length, Option, Some, None, refl, sym, ap, ◌∙◌, subst, inl, inr, eqb-true, eq-eqb, arith}
 use Rattle.std.specs.Prelude.{if◌then◌else◌, option_and_then, slice_get, find}
 use Rattle.std.specs.List.{list_all, list_any}
@@ -42,7 +42,7 @@ use Rattle.acta_hope.proofs.BlockKinds.{none-passes-at, passes}
 use Rattle.acta_hope.proofs.Counting.{among-left, among-right, among-either, formed-covered, left-true, right-true}
 use Rattle.acta_hope.proofs.Hopes.{Only, by_some, if_some}
 
--- one in progress keeps its class
+-- a transaction in progress keeps its class
 pub class-stays : {A : Type 0} (m : Parts A) (s l : Summary) → IsLater s l → (t : ℕ) → s.status t ≡ InProgress → class_of m l t ≡ class_of m s t
 class-stays m s l later t on = ap (option_and_then (λ c. class_at m c.0)) (later.class t (ap has_begun on))
 
@@ -66,7 +66,7 @@ none-at {X} test xs n none = of (item_at xs n) refl
     of None at = refl
     of (Some x) at = none-passes-at test xs n x none at
 
--- where it is admitted, an operation that stood in its way no longer does
+-- if the event is admitted, an operation that blocked it no longer does
 pub conflict-gone : {A : Type 0} (m : Parts A) (s : Summary) (e : Event A) (n : ℕ) → (conflict m s e ≡ Some (record { rule = Conflict; by = Some n })) × (not_in_progress s e ≡ None) → Only m s e (λ l. stands_in m l e n ≡ false)
 unfolding conflict not_in_progress
 conflict-gone m s (Operate t ob op) n broken l later none =
@@ -89,7 +89,7 @@ guard-only : (b : Bool) (o : Option ℕ) (n : ℕ) → (if b then o else None) �
 guard-only true o n e = e
 guard-only false o n e = cc
 
--- the operation that is named stands in the way
+-- the named operation blocks the event
 pub conflict-stands : {A : Type 0} (m : Parts A) (s : Summary) (e : Event A) (n : ℕ) (i : HeldOp) → operation_at s.operations n ≡ Some i → conflict m s e ≡ Some (record { rule = Conflict; by = Some n }) → stands_in m s e n ≡ true
 unfolding conflict
 conflict-stands m s (Operate t ob op) n i at broken =
@@ -129,7 +129,7 @@ due-all : {A : Type 0} (t : TxnId) (class : Option (Class A)) (us vs : List ℕ)
 due-all t None us vs g listed is = is
 due-all t (Some k) us vs g listed is = upon-all k.policy t us vs g listed is
 
--- where it is admitted, one of those who stood in its way no longer does
+-- if it is admitted, one of the conflicting holders is no longer one
 pub fewer-then : {A : Type 0} (m : Parts A) (s : Summary) (e : Event A) (r : Refusal) → is_operate e ≡ true → (edges_full m s e ≡ Some r) × (not_in_progress s e ≡ None) → Only m s e (λ l. are_listed (conflicting_holders_of m s e) (conflicting_holders_of m l e) ≡ false)
 unfolding edges_full not_in_progress
 fewer-then {A} m s (Operate t ob op) r is broken l later none = of (are_listed us vs) refl
@@ -161,7 +161,7 @@ fewer-then m s (Commit t) r is broken l later none = absurd (true≢false (sym i
 fewer-then m s (Abort t) r is broken l later none = absurd (true≢false (sym is))
 fewer-then m s (Permit t u ob) r is broken l later none = absurd (true≢false (sym is))
 
--- operations that have to be handed over
+-- operations that have to be transferred
 
 guard-and : (a b : Bool) (o : Option ℕ) (n : ℕ) → (if a && b then o else None) ≡ Some n → (a ≡ true) × (b ≡ true)
 guard-and true true o n e = (refl, refl)
@@ -199,7 +199,7 @@ none-found test (k ∷ ns) n e listed = of (test k) refl e (none-found test ns n
           | inr there ↦ rest e there
         ]
 
--- a number is among those of the items that pass where its item does
+-- a number is among those of the items that pass if its item passes
 numbered-from : {X : Type 0} (test : X → Bool) (k : ℕ) (xs : List X) (i : ℕ) (x : X) → slice_get xs i ≡ Some x → test x ≡ true → is_listed (numbers_from test k xs) (k + i) ≡ true
 numbered-from test k [] i x at is = cc
 numbered-from test k (y ∷ xs) zero x at is = of (test y) (ap test (same_Some y x at) ∙ is)
@@ -219,7 +219,7 @@ numbered : {X : Type 0} (test : X → Bool) (xs : List X) (n : ℕ) (x : X) → 
 numbered test xs zero x at is = cc
 numbered test xs (suc i) x at is = let same : 1 + i ≡ suc i = omega arith in ap (is_listed (numbers_where test xs)) (sym same) ∙ numbered-from test 1 xs i x at is
 
--- the rule, where the one that acts is known
+-- the rule, if the acting transaction is known
 left-then : {A : Type 0} (m : Parts A) (s : Summary) (e : Event A) (t n : ℕ) → acting e ≡ Some t → partial_delegation m s e ≡ Some (record { rule = PartialDelegation; by = Some n }) → left_out_by m s e t ≡ Some n
 unfolding partial_delegation
 left-then m s e t n acts broken = ap (option_and_then (left_out_by m s e)) (sym acts) ∙ by_some PartialDelegation _ n broken
@@ -232,7 +232,7 @@ acting-in_progress : {A : Type 0} (s : Summary) (e : Event A) (t : ℕ) → acti
 unfolding not_in_progress
 acting-in_progress s e t acts none = in_progress s NotInProgress t (ap (λ x. broken_by NotInProgress (option_and_then (fails s is_in_progress) x)) (sym acts) ∙ none)
 
--- where it is admitted, the one that acts no longer holds what was left out
+-- if it is admitted, the acting transaction no longer holds the operation that was left out
 pub left-let-go : {A : Type 0} (m : Parts A) (s : Summary) (e : Event A) (t n : ℕ) → acting e ≡ Some t → (partial_delegation m s e ≡ Some (record { rule = PartialDelegation; by = Some n })) × (not_in_progress s e ≡ None) → Only m s e (λ l. option_map_or (is_held t) (operation_at l.operations n) false ≡ false)
 left-let-go {A} m s e t n acts broken l later none = of (operation_at l.operations n) refl
   where
@@ -263,7 +263,7 @@ left-let-go {A} m s e t n acts broken l later none = of (operation_at l.operatio
         held true is =
             absurd (true≢false (sym missing ∙ none-found (λ k. not (is_named (operations_named e) k)) (numbers_where (is_held t) l.operations) n clear (numbered (is_held t) l.operations n i at is)))
 
--- one that hands over acts
+-- a transaction that transfers operations acts
 pub whole-acts : {A : Type 0} (m : Parts A) (s : Summary) (e : Event A) (n : ℕ) → partial_delegation m s e ≡ Some (record { rule = PartialDelegation; by = Some n }) → acting e ≡ None → ⊥
 unfolding partial_delegation
 whole-acts m s e n broken none =

@@ -1,4 +1,4 @@
--- Transactions that wait for one another to end never commit or abort.
+-- Transactions that wait for each other to end never commit or abort.
 use Rattle.std.proofs.Common.{◌≡◌, ◌<◌, ◌≤◌, ℕ, ◌+◌, Bool, true, false, ◌==◌, ◌&&◌, ◌||◌, not, List, [], ◌∷◌, ◌++◌, length, Option, Some, None, refl, sym, ap, ◌∙◌, subst, inl, inr, eqb-true, eq-eqb, arith}
 use Rattle.std.specs.Prelude.{if◌then◌else◌, get_or}
 use Rattle.std.specs.List.{position_from}
@@ -33,7 +33,7 @@ use Rattle.acta_hope.proofs.Counting.{among-left, same-parts}
 use Rattle.acta_hope.proofs.Growth.{summary_in, later-after}
 use Rattle.acta_hope.proofs.Rulings.{none-from}
 
--- a termination dependency in force lets nobody end before the other
+-- by a termination dependency in force, the dependent transaction can't end before the other
 
 td-kind : (k : Dep) (x : Status) → code_of Td ≡ code_of k → ends_after k x ≡ not (is_decided x)
 td-kind Td x same = refl
@@ -77,7 +77,7 @@ abort-after A s t i none is =
     (by_none TerminationDep _ (none-from (termination_dep s.status s.edges t.0)
     (owing_commit s.status s.edges t.0 ∷ unpayable_abort s.status s.edges t.0 ∷ clash s.status s.edges t.0 Aborted ∷ []) none)) is
 
--- an event that ends nobody of these
+-- an event that ends none of these
 
 kept-undecided : (status : ℕ → Status) (t : ℕ) (x : Status) (u : ℕ) → (u ≡ t → is_decided x ≡ false) → is_decided (status u) ≡ false → is_decided (with_status status t x u) ≡ false
 kept-undecided status t x u new old = of (u == t) refl
@@ -94,8 +94,8 @@ settled-status s t (Some u) = refl
 same_txn : (t u : TxnId) → t.0 ≡ u.0 → t ≡ u
 same_txn t u e = ap (λ k. record { 0 = k }) e
 
--- one that has not been decided, and by a termination dependency waits for one that has not been either, is not decided
--- by an event that breaks no rule
+-- a transaction that has neither committed nor aborted, and by a termination dependency waits for one that has not either,
+-- does neither in an event that breaks no rule
 pub still-undecided : {A : Type 0} (m : Parts A) (s : Summary) (e : Event A) (t i : TxnId) → lowest_broken m s e ≡ None → is_among s.edges (record { kind = Td; j = t; i = i }) ≡ true → is_decided (s.status t.0) ≡ false → is_decided (s.status i.0) ≡ false → is_decided ((effect m s e).status t.0) ≡ false
 unfolding stood terminated permit_given entered linked given inherited operated fated counted
 still-undecided m s (event.Begin u class) t i none edge old other = kept-undecided s.status u.0 InProgress t.0 (λ is. refl) old
@@ -116,7 +116,7 @@ still-undecided {A} m s (event.Abort u) t i none edge old other =
     old
 still-undecided m s (event.Permit u v ob) t i none edge old other = old
 
--- a chain that comes back to itself
+-- a chain that returns to one of its transactions
 
 module _ (chain : List TxnId) where
   one : ℕ → TxnId
@@ -125,7 +125,7 @@ module _ (chain : List TxnId) where
   abbrev AreUndecided : Summary → Type 0
   AreUndecided s = (k : ℕ) → k < length chain → is_decided (s.status (get_or chain k nobody).0) ≡ false
 
-  -- each waits for one of them
+  -- each waits for another of them
   abbrev AreLinked : Summary → Type 0
   AreLinked s = (k : ℕ) → k < length chain → (next : ℕ) × ((next < length chain) × (is_among s.edges (record { kind = Td; j = get_or chain k nobody; i = get_or chain next nobody }) ≡ true))
 

@@ -1,4 +1,4 @@
--- What each rule on dependencies, but for the clash, asks of an edge; and words of the proofs.
+-- The edges by which an event breaks a rule on dependencies, all rules but `Clash`; used in proofs.
 use Rattle.std.specs.Prelude.{◌≡◌, ⊤, ℕ, Bool, false, None}
 use Rattle.acta_table.specs.declared.answer.Refusal.{Refusal}
 use Rattle.acta_table.specs.declared.answer.Rule.{Rule}
@@ -13,7 +13,7 @@ use Rattle.acta_deps.specs.Dependencies.{awaits_begin, awaits_end, awaits_commit
 use Rattle.acta_machine.specs.Rules.{dependency}
 use Rattle.acta_machine.specs.Summary.{Summary}
 
--- the one that the rules on dependencies ask about
+-- the transaction whose edges the rules on dependencies check
 abbrev pub subject : {A : Type 0} → Event A → ℕ
 subject (Begin t class) = t.0
 subject (Spawn t c class) = c.0
@@ -28,7 +28,7 @@ unpayable_test (Commit t) status = is_awaited cannot_pay_commit status t.0
 unpayable_test (Abort t) status = is_awaited cannot_pay_abort status t.0
 unpayable_test _ status = λ f. false
 
--- whether by the edge the event breaks the rule
+-- whether the event breaks the rule by this edge
 abbrev pub edge_test : {A : Type 0} → Event A → Rule → (ℕ → Status) → Edge → Bool
 edge_test e BeginDep status = depends awaits_begin status (subject e)
 edge_test e SerialDep status = depends awaits_end status (subject e)
@@ -42,7 +42,7 @@ edge_test e WeakBegin status = is_awaited began_first status (subject e)
 edge_test e Unpayable status = unpayable_test e status
 edge_test e _ status = λ f. false
 
--- the first edge that passes is the one that is named, and where no rule on dependencies is broken none passes
+-- the refusal names the first edge that breaks the rule; if no rule on dependencies is broken, no edge breaks it
 abbrev pub IsBy : {A : Type 0} → Event A → Summary → Refusal → Rule → Type 0
 IsBy e s r rule =
     (first_number (edge_test e rule s.status) s.edges ≡ r.by)

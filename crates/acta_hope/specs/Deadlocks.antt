@@ -1,4 +1,4 @@
--- For whom an event waits, and where transactions wait for one another in a circle.
+-- The transaction for which an event waits, and waits-for cycles.
 use Rattle.std.specs.Prelude.{◌≡◌, ◌==◌, ◌<◌, ◌≤◌, ◌+◌, ◌-◌, ℕ, Bool, true, false, List, length, get_or, Option, Some, None, option_map, slice_get}
 use Rattle.acta_table.specs.declared.event.Event.{Event}
 use Rattle.acta_table.specs.declared.event.TxnId.{TxnId}
@@ -9,7 +9,7 @@ use Rattle.acta_hope.specs.declared.deadlock.Wait.{Wait}
 use Rattle.acta_hope.specs.declared.hoping.Hope.{Hope}
 use Rattle.acta_hope.specs.declared.hoping.Hope.TheVariants.{OnceBegun, OnceDecided, OnceCommitted, OnceAborted, OnceFree}
 
--- the one that has to do something so that this holds: the one of which it speaks, or the holder of the operation
+-- the transaction that has to do something for the condition to hold: the one it names, or the operation's holder
 abbrev pub awaited_in : {A : Type 0} → State A → Hope → Option TxnId
 awaited_in state (OnceBegun t) = Some t
 awaited_in state (OnceDecided t) = Some t
@@ -18,20 +18,20 @@ awaited_in state (OnceAborted t) = Some t
 awaited_in state (OnceFree op) = option_map (λ i. i.holder) (operation_at (operations_in state) op.0)
 awaited_in state _ = None
 
--- the event is admitted only where this holds, and the transaction has to do something for that
+-- the event can be admitted only under this condition, for which this transaction has to do something
 abbrev pub Awaits : {A : Type 0} → State A → Event A → TxnId → Hope → Type 0
 Awaits state e t until = Holds state e until × (awaited_in state until ≡ Some t)
 
--- whether the one waits for the other
+-- whether the first waits for the second
 abbrev pub links : Option Wait → Option Wait → Bool
 links (Some one) (Some other) = one.next.0 == other.txn.0
 links _ _ = false
 
--- whether the one at this place waits for the one at the next
+-- whether the transaction at one place waits for the one at the other
 abbrev pub is_linked : List Wait → ℕ → ℕ → Bool
 is_linked waits place next = links (slice_get waits place) (slice_get waits next)
 
--- each at these places waits for the one at the next, and the last is the first again
+-- the transaction at each place waits for the one at the next, and the last place equals the first
 abbrev pub IsCircle : List Wait → List ℕ → Type 0
 IsCircle waits places =
     (2 ≤ length places) × (get_or places 0 0 ≡ get_or places (length places - 1) 0)

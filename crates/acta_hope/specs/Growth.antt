@@ -1,4 +1,4 @@
--- What later events leave of a history: how a summary comes after another.
+-- What later events leave unchanged in a history.
 use Rattle.std.specs.Prelude.{◌≡◌, ◌≤◌, ◌⊎◌, ℕ, true, false, ⊤, List, [], ◌∷◌, ◌++◌, Some}
 use Rattle.acta_table.specs.declared.answer.Status.{Status}
 use Rattle.acta_table.specs.declared.answer.Status.TheVariants.{Committed, Aborted}
@@ -12,29 +12,29 @@ use Rattle.acta_deps.specs.Statuses.{has_begun, has_ended}
 use Rattle.acta_sets.specs.declared.held_op.HeldOp.{HeldOp}
 use Rattle.acta_machine.specs.Summary.{Summary}
 
--- an operation keeps its object and what it does, and its fate once it has one
+-- an operation keeps its object and its action, and its fate once it has one
 pub record IsOpLater (i j : HeldOp) : Type 0 where
   pub object : j.ob ≡ i.ob
   pub op : j.op ≡ i.op
   pub fate : is_open i.fate ≡ false → j.fate ≡ i.fate
 
--- of each operation so far there is the later one at its number, and there may be more
+-- every operation so far is still there under its number; more may follow
 abbrev pub AreLater : List HeldOp → List HeldOp → Type 0
 AreLater [] js = ⊤
 AreLater (i ∷ is) [] = ⊥
 AreLater (i ∷ is) (j ∷ js) = IsOpLater i j × AreLater is js
 
--- the status of a transaction that has done what it owed
+-- the status of a transaction that has paid its debt
 abbrev pub paid : Missing → Status
 paid Commit = Committed
 paid Abort = Aborted
 
--- what is owed by an edge is still owed by it, or paid
+-- a debt of an edge is still owed by it, or paid
 abbrev pub StaysOwed : Summary → Summary → Type 0
 StaysOwed s l =
     (n : ℕ) (f : Edge) (missing : Missing) → item_at s.edges n ≡ Some f → debt_of s.status f ≡ Some missing → (debt_of l.status f ≡ Some missing) ⊎ (l.status f.j.0 ≡ paid missing)
 
--- what is so of the second summary, if it is the first or comes after it
+-- the second summary is the first or a later one
 pub record IsLater (s l : Summary) : Type 0 where
   pub kept : s.kept ≤ l.kept
   pub begun : (t : ℕ) → has_begun (s.status t) ≡ true → has_begun (l.status t) ≡ true

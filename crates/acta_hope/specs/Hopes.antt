@@ -1,4 +1,4 @@
--- What no later events change of the answer to an event.
+-- Statements about an event's refusal that hold whatever later events come.
 use Rattle.std.specs.Prelude.{◌≡◌, ◌==◌, ℕ, Bool, true, false, ⊤, List, [], None, Some, is_some}
 use Rattle.std.specs.List.{list_all, list_any}
 use Rattle.std.specs.Option.{option_map_or}
@@ -26,43 +26,43 @@ use Rattle.acta_hope.specs.declared.hoping.Hope.TheVariants.{Never, OnceBegun, O
 abbrev pub IsHopeless : {A : Type 0} → State A → Event A → Type 0
 IsHopeless {A} state e = (es : List (Event A)) → is_some (refusal_in (after_all state es) e) ≡ true
 
--- it is admitted only where this holds
+-- after any later events, the event is admitted only if the condition holds then
 abbrev pub OnlyWhere : {A : Type 0} → (State A → Type 0) → State A → Event A → Type 0
 OnlyWhere {A} P state e =
     (es : List (Event A)) → refusal_in (after_all state es) e ≡ None → P (after_all state es)
 
--- whether the operation of this number stands in the way of the event: it is in progress, conflicts with it, and is held
--- by another, whom the class of the acting transaction doesn't spare, and who hasn't permitted it to work there
+-- whether the operation of this number blocks the event: it is in progress and conflicts with it, and its holder is another
+-- transaction, not exempt by the acting transaction's class, which hasn't permitted it to work on the object
 abbrev pub stands_in : {A : Type 0} → Parts A → Summary → Event A → ℕ → Bool
 stands_in m s (Operate t ob op) n = option_map_or (stands_against m s t.0 ob op) (operation_at s.operations n) false
 stands_in m s _ n = false
 
--- the same of a machine
+-- the same for a machine's state
 abbrev pub stands_in_way : {A : Type 0} → State A → Event A → OpNo → Bool
 stands_in_way state e op = stands_in state.model (summary_of state.model state.kept) e op.0
 
--- who holds operations that stand in the way of the event
+-- the holders of operations that block the event
 abbrev pub conflicting_holders_of : {A : Type 0} → Parts A → Summary → Event A → List ℕ
 conflicting_holders_of m s (Operate t ob op) = conflicting_holders m s t.0 ob op
 conflicting_holders_of m s _ = []
 
--- the same of a machine
+-- the same for a machine's state
 abbrev pub conflicting_holders_in : {A : Type 0} → State A → Event A → List ℕ
 conflicting_holders_in state e = conflicting_holders_of state.model (summary_of state.model state.kept) e
 
--- whether the number is among these, and whether all of these are
+-- whether the number is in the list, and whether all of the numbers are
 abbrev pub is_listed : List ℕ → ℕ → Bool
 is_listed vs u = list_any (λ v. v == u) vs
 
 abbrev pub are_listed : List ℕ → List ℕ → Bool
 are_listed us vs = list_all (is_listed vs) us
 
--- the reason is the one for which the event is refused, and what it says is so
+-- the event is refused with the reason's refusal, and what the reason says is true
 pub record IsWhy {A : Type 0} (state : State A) (e : Event A) (reason : Reason) : Type 0 where
   pub refusal : refusal_in state e ≡ Some (refusal_of reason)
   pub so : IsSo state.model (summary_of state.model state.kept) e reason
 
--- what is said of hope is so
+-- the meaning of each hope
 abbrev pub Holds : {A : Type 0} → State A → Event A → Hope → Type 0
 Holds state e Never = IsHopeless state e
 Holds state e (OnceBegun t) = OnlyWhere (λ later. has_begun (status_in later t.0) ≡ true) state e
@@ -89,18 +89,17 @@ is_of_edge WeakBegin = true
 is_of_edge Unpayable = true
 is_of_edge _ = false
 
--- whether it is an operation
+-- whether the event is an operation
 abbrev pub is_operate : {A : Type 0} → Event A → Bool
 is_operate (Operate t ob op) = true
 is_operate _ = false
 
--- the reasons for which nothing need be known
+-- the reasons for which the hope may be `Unknown`
 abbrev pub MayBeUnreported : Reason → Type 0
 MayBeUnreported (Blocked blocking_edge) = is_of_edge blocking_edge.rule ≡ false
 MayBeUnreported _ = ⊥
 
--- by what the reason names, the rule is broken: the operation stands in the way; or the edge is one by which the rule blocks
--- the event
+-- the operation that the reason names blocks the event, or the event breaks the rule by the edge that the reason names
 abbrev pub HasForce : {A : Type 0} → State A → Event A → Reason → Type 0
 HasForce state e (Conflict op) = stands_in_way state e op.number ≡ true
 HasForce state e (Blocked blocking_edge) = is_of_edge blocking_edge.rule ≡ true → edge_test e blocking_edge.rule (status_in state) blocking_edge.by.edge ≡ true

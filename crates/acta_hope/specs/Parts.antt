@@ -1,5 +1,4 @@
--- Words of the code's own contracts: what hope is told where one has to be in progress, and where one has to hold an
--- operation.
+-- The hope for each kind of reason: definitions for internal contracts.
 use Rattle.std.specs.Prelude.{◌≡◌, ◌⊎◌, ◌||◌, ◌&&◌, not, ◌==◌, nat_lt, ℕ, Bool, true, false, None, Some}
 use Rattle.acta_table.specs.declared.answer.Status.{Status}
 use Rattle.acta_table.specs.declared.answer.Status.TheVariants.{InProgress}
@@ -27,26 +26,27 @@ use Rattle.acta_hope.specs.Hopes.{is_operate}
 use Rattle.acta_hope.specs.declared.hoping.Hope.{Hope}
 use Rattle.acta_hope.specs.declared.hoping.Hope.TheVariants.{Never, OnceBegun, OnceHeld, OnceDecided, OnceCommitted, OnceAborted, OnceFree, OnceLetGo, OnceFewer, Unknown}
 
--- it never is where t has ended
+-- the hope if t has to be in progress: `Never` only if t has ended, otherwise `OnceBegun`, or `Unknown` while t is in
+-- progress
 abbrev pub IsOfBegun : TxnId → Status → Hope → Type 0
 IsOfBegun t status Never = has_ended status ≡ true
 IsOfBegun t status (OnceBegun u) = u ≡ t
 IsOfBegun t status Unknown = status ≡ InProgress
 IsOfBegun t status _ = ⊥
 
--- it is once the one that acts holds the operation
+-- the hope if the acting transaction has to hold the operation
 abbrev pub IsOfHeld : {A : Type 0} → Event A → OpNo → Hope → Type 0
 IsOfHeld e n (OnceHeld t k) = (k ≡ n) × (acting e ≡ Some t.0)
 IsOfHeld e n Unknown = acting e ≡ None
 IsOfHeld e n _ = ⊥
 
--- it is once the one that acts no longer holds the operation
+-- the hope if the acting transaction may not hold the operation
 abbrev pub IsOfLeftOut : {A : Type 0} → Event A → OpNo → Hope → Type 0
 IsOfLeftOut e n (OnceLetGo t k) = (k ≡ n) × (acting e ≡ Some t.0)
 IsOfLeftOut e n Unknown = acting e ≡ None
 IsOfLeftOut e n _ = ⊥
 
--- whether by the rule an edge blocks for good, where its transactions stand so
+-- whether an edge between transactions with these statuses blocks by the rule for good
 abbrev pub blocks_for_good : Rule → Status → Status → Bool
 blocks_for_good SerialDep j i = has_ended i
 blocks_for_good BeginOnCommit j i = has_ended i
@@ -59,7 +59,7 @@ blocks_for_good Unpayable j i = has_ended j
 blocks_for_good WeakBegin j i = true
 blocks_for_good _ j i = false
 
--- whether nothing may be said where an edge blocks by the rule, and its transactions stand so
+-- whether the hope may be `Unknown` if an edge between transactions with these statuses blocks by the rule
 abbrev pub may_be_unreported : Rule → Status → Status → Bool
 may_be_unreported BeginDep j i = false
 may_be_unreported SerialDep j i = false
@@ -73,7 +73,7 @@ may_be_unreported CommitOrder j i = not (has_ended j)
 may_be_unreported Unpayable j i = not (has_ended j)
 may_be_unreported _ j i = true
 
--- it is for good, or until the one on which the edge is has done what is awaited
+-- the hope if an edge blocks: `Never`, or a condition on the transaction on which the edge depends
 abbrev pub IsOfBlockingEdge : BlockingEdge → Hope → Type 0
 IsOfBlockingEdge b Never = blocks_for_good b.rule b.j b.i ≡ true
 IsOfBlockingEdge b (OnceBegun t) = (b.rule ≡ BeginDep) × (t ≡ b.by.edge.i)
@@ -83,16 +83,17 @@ IsOfBlockingEdge b (OnceAborted t) = (b.rule ≡ BeginOnAbort) × (t ≡ b.by.ed
 IsOfBlockingEdge b Unknown = may_be_unreported b.rule b.j b.i ≡ true
 IsOfBlockingEdge b _ = ⊥
 
--- whether the kind is the weak-abort dependency, by which one that has committed owes nothing
+-- whether the kind is the weak-abort dependency, by which a committed transaction owes nothing
 abbrev pub is_wd : Dep → Bool
 is_wd Wd = true
 is_wd _ = false
 
--- whether a commit of the transaction that would owe both would help, where the other one of the abort's edge has this status
+-- whether it would help if the transaction that would owe both committed; i is the status of the other transaction of the
+-- abort's edge
 abbrev pub is_helped : Clash → Status → Bool
 is_helped c i = is_wd c.abort.edge.kind && not (has_ended i)
 
--- it never is but once the one that would owe both has committed
+-- the hope if a transaction would owe both a commit and an abort: `Never`, unless its commit helps
 abbrev pub IsOfClash : Clash → Status → Hope → Type 0
 IsOfClash c i Never = is_helped c i ≡ false
 IsOfClash c i (OnceCommitted t) = (is_helped c i ≡ true) × (t ≡ c.commit.edge.j)
@@ -102,14 +103,14 @@ IsOfClash c i _ = ⊥
 abbrev pub is_no_operation : ℕ → Bool
 is_no_operation n = (n == 0) || nat_lt MOST_EVENTS n
 
--- it never is but for an operation
+-- the hope if there would be too many edges: `Never`, except for an operation
 abbrev pub IsOfEdges : {A : Type 0} → Event A → Hope → Type 0
 IsOfEdges e Never = is_operate e ≡ false
 IsOfEdges e OnceFewer = is_operate e ≡ true
 IsOfEdges e _ = ⊥
 
--- whether h has begun, and its class lets it do nothing by which it lets go of what it holds, or permits another to work
--- beside it
+-- whether h has begun, and its class allows no event by which it gives up operations or permits others to work on their
+-- objects
 abbrev pub holds_on : {A : Type 0} → Parts A → Summary → ℕ → Bool
 holds_on m s h =
     has_begun (s.status h)
@@ -120,12 +121,13 @@ holds_on m s h =
 abbrev pub exempts_none : {A : Type 0} → Parts A → Summary → ℕ → Bool
 exempts_none m s t = not (has_class (λ k. exempts k.scope) m s t)
 
--- an operation that stands in the way of t never lets it by where its holder holds on, and t's class exempts nobody
+-- whether an operation that blocks the event does so for good: its holder can't give it up, and the acting class exempts
+-- nobody
 abbrev pub is_held_on : {A : Type 0} → Parts A → Summary → Event A → ℕ → Bool
 is_held_on m s (Operate t ob op) h = exempts_none m s t.0 && holds_on m s h
 is_held_on m s _ h = false
 
--- it never is where the holder holds on
+-- the hope if an operation blocks: `Never` if it does so for good
 abbrev pub IsOfConflict : {A : Type 0} → Parts A → Summary → Event A → NumberedOp → Hope → Type 0
 IsOfConflict m s e op Never = is_held_on m s e op.held.holder.0 ≡ true
 IsOfConflict m s e op (OnceFree k) = (is_held_on m s e op.held.holder.0 ≡ false) × (k ≡ op.number)

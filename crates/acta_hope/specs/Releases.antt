@@ -1,4 +1,4 @@
--- How the holder of an operation can let it go, so that it no longer stands in the way of an event.
+-- The ways in which the holder of an operation can release it, so that it no longer blocks an event.
 use Rattle.std.specs.Prelude.{◌≡◌, ◌==◌, ◌&&◌, ◌||◌, ℕ, Bool, true, false, List, Some, None}
 use Rattle.std.specs.Option.{option_map_or}
 use Rattle.acta_table.specs.declared.event.EventKind.TheVariants as kind
@@ -20,15 +20,15 @@ use Rattle.acta_hope.specs.Hopes.{stands_in_way}
 use Rattle.acta_hope.specs.declared.releases.Release.{Release}
 use Rattle.acta_hope.specs.declared.releases.Release.TheVariants.{Commit, Abort, Delegate, Join, Permit}
 
--- whether what u holds never stands in the way of t: it is t, or an ancestor that t's class exempts
+-- whether operations of u never block t: u is t, or an ancestor that t's class exempts
 abbrev pub is_exempt : {A : Type 0} → Parts A → Summary → ℕ → TxnId → Bool
 is_exempt m s t u = (u.0 == t) || is_among (exempt m s t) u
 
--- whether a commit of h leaves what it holds to nobody, or to one who is exempt
+-- whether after a commit of h its operations have ended, or their heir is exempt for t
 abbrev pub frees_at_commit : {A : Type 0} → Parts A → Summary → ℕ → ℕ → Bool
 frees_at_commit m s t h = option_map_or (is_exempt m s t) (heir_of m s h) true
 
--- whether the class of h lets it let go so, as far as t goes
+-- whether the class of h allows this release, and the release can help t
 abbrev pub may_release : {A : Type 0} → Parts A → Summary → ℕ → ℕ → Release → Bool
 may_release m s t h Commit = txn_may m s h kind.Commit && frees_at_commit m s t h
 may_release m s t h Abort = txn_may m s h kind.Abort
@@ -36,13 +36,13 @@ may_release m s t h Delegate = txn_may m s h kind.Delegate
 may_release m s t h Join = txn_may m s h kind.Join
 may_release m s t h Permit = txn_may m s h kind.Permit
 
--- whether the holder of the operation may let it go so, as far as the event goes
+-- whether the holder of the operation may release it in this way for the acting transaction
 abbrev pub may_let_go : {A : Type 0} → State A → Event A → OpNo → Release → Bool
 may_let_go state (event.Operate t ob op) n release =
     option_map_or (λ i. may_release state.model (summary_of state.model state.kept) t.0 i.holder.0 release) (operation_at (operations_in state) n.0) false
 may_let_go state _ n release = false
 
--- by the event the holder of the operation, which has the number n, lets it go for t
+-- the event by which the holder of operation n releases it for t
 abbrev pub IsRelease : {A : Type 0} → TxnId → OpNo → HeldOp → Release → Event A → Type 0
 IsRelease t n i Commit e = e ≡ event.Commit i.holder
 IsRelease t n i Abort e = e ≡ event.Abort i.holder
@@ -50,7 +50,7 @@ IsRelease t n i Delegate e = (ops : List OpNo) × (is_named ops n.0 ≡ true) ×
 IsRelease t n i Join e = e ≡ event.Join i.holder t
 IsRelease t n i Permit e = e ≡ event.Permit i.holder t i.ob
 
--- right after the holder has let it go so, if it may, the operation no longer stands in the way of the event
+-- right after the holder's release is admitted, the operation no longer blocks the event
 abbrev pub LetsGo : {A : Type 0} → State A → Event A → OpNo → Release → Type 0
 LetsGo {A} state e n release =
     (t : TxnId) (i : HeldOp) (r : Event A) → acting e ≡ Some t.0 → operation_at (operations_in state) n.0 ≡ Some i

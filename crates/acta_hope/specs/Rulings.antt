@@ -1,4 +1,4 @@
--- Words of the proofs: which rule it is that an event breaks, and what of the rules before it is so then.
+-- The rule that an event breaks, and the earlier rules that it then keeps; used in proofs.
 use Rattle.std.specs.Prelude.{◌≡◌, ⊤, List, [], ◌∷◌, Option, None, Some}
 use Rattle.acta_table.specs.declared.answer.Refusal.{Refusal}
 use Rattle.acta_table.specs.declared.answer.Rule.{Rule}
@@ -10,7 +10,7 @@ use Rattle.acta_objects.specs.WellFormed.{bad_operation}
 use Rattle.acta_machine.specs.Summary.{Summary}
 use Rattle.acta_machine.specs.Rules.{full, not_in_progress, already_begun, not_in_model, partner_not_in_progress, not_responsible, partial_delegation, bad_set, conflict, form_too_late, edges_full, earlier_broken, dependency, no_heir}
 
--- the rule of this name is broken so
+-- the event breaks this rule with this refusal
 abbrev pub IsBrokenBy : {A : Type 0} → Parts A → Summary → Event A → Refusal → Rule → Type 0
 IsBrokenBy m s e r Full = full s ≡ Some r
 IsBrokenBy m s e r BadNumber = bad_number e ≡ Some r
@@ -31,7 +31,7 @@ IsBrokenBy m s e r EdgesFull = (edges_full m s e ≡ Some r) × (not_in_progress
 IsBrokenBy m s e r NoHeir = (no_heir m s e ≡ Some r) × (earlier_broken m s e ≡ None)
 IsBrokenBy m s e r _ = (dependency s e ≡ Some r) × (earlier_broken m s e ≡ None)
 
--- what is shown of the first that is broken, with what follows where it is not
+-- P follows if the refusal is the first of the list that is present
 abbrev pub Cases : Type 0 → Refusal → List (Option Refusal) → Type 0
 Cases P r [] = ⊤
 Cases P r (x ∷ xs) = (x ≡ Some r → P) × (x ≡ None → Cases P r xs)

@@ -1,4 +1,4 @@
--- What it means that transactions wait for one another to end.
+-- Transactions that wait for each other to end, for ever.
 use Rattle.std.specs.Prelude.{◌≡◌, ◌<◌, ℕ, false, List, length, get_or}
 use Rattle.acta_table.specs.declared.event.Event.{Event}
 use Rattle.acta_table.specs.declared.event.TxnId.{TxnId}

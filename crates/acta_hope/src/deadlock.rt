@@ -1,4 +1,4 @@
-//! Transactions whose events wait for one another.
+//! Transactions whose events wait for each other.
 
 ghost use Rattle.std.specs.Prelude.{◌≡◌, ◌≢◌, ◌<◌, ◌≤◌, ◌+◌, ℕ, All, true, IfOk, IfSome, None, OnOk, length, get_or};
 ghost use Rattle.acta_machine.specs.Table.{refusal_in};
@@ -10,18 +10,18 @@ use acta_machine::{Handle, Machine};
 use acta_table::{Event, Items, TxnId};
 use std::alloc::{AllocError, Allocator};
 
-/// A transaction of which an event is refused until another does something.
+/// A transaction whose event is refused until another transaction does something.
 #[derive(Clone, Copy, PartialEq, Eq, Debug)]
 pub struct Wait {
-    /// The one that waits.
+    /// The waiting transaction.
     pub txn: TxnId,
-    /// The one for which it waits.
+    /// The transaction for which it waits.
     pub next: TxnId,
-    /// Where alone the event is admitted.
+    /// The condition without which the event is never admitted.
     pub until: Hope,
 }
 
-// The one that has to do something so that this holds.
+// The transaction that has to do something for this condition to hold.
 fn awaited_in<A: Handle>(machine: &Machine<A>, until: Hope) -> Option<TxnId>
     ensures { result ≡ awaited_in machine.now until }
 {
@@ -42,9 +42,9 @@ fn awaited_in<A: Handle>(machine: &Machine<A>, until: Hope) -> Option<TxnId>
     }
 }
 
-/// For which other transaction the event of this one waits: for the one that has to begin, commit or abort before, or for the
-/// holder of an operation that stands in its way. `None` where the machine would admit the event, and where what is known is
-/// no wait for another transaction. Returns `Err` if memory runs out.
+/// The transaction for which this one's event waits: it has to begin, commit or abort first, or holds an operation that
+/// blocks the event. `None` if the machine would admit the event, or if no wait for another transaction is known. Returns
+/// `Err` if memory runs out.
 pub fn wait_of<A: Handle>(
     machine: &Machine<A>,
     txn: TxnId,
@@ -64,12 +64,12 @@ pub fn wait_of<A: Handle>(
     }
 }
 
-// The place of the one that waits as this transaction, where the places are in the order of the transactions.
+// The place of this transaction's wait. `waits` is sorted by transaction.
 fn place_of(waits: &[Wait], txn: TxnId) -> Option<usize> {
     waits.binary_search_by_key(&txn.0, |wait| wait.txn.0).ok()
 }
 
-// Whether the one at this place waits for the one at the next.
+// Whether the transaction at `place` waits for the one at `next`.
 fn is_linked(waits: &[Wait], place: usize, next: usize) -> bool
     ensures { result ≡ is_linked waits.now place next }
 {
@@ -82,7 +82,7 @@ fn is_linked(waits: &[Wait], place: usize, next: usize) -> bool
     }
 }
 
-// Whether each at these places waits for the one at the next.
+// Whether the transaction at each of these places waits for the one at the next.
 fn is_chain(waits: &[Wait], places: &[usize]) -> bool
     ensures { result ≡ true → (k : ℕ) → k + 1 < length places.now → is_linked waits.now (get_or places.now k 0) (get_or places.now (k + 1) 0) ≡ true }
 {
@@ -94,14 +94,14 @@ fn is_chain(waits: &[Wait], places: &[usize]) -> bool
     true
 }
 
-// Whether these are the places of a circle.
+// Whether these places form a cycle.
 fn is_circle(waits: &[Wait], places: &[usize]) -> bool
     ensures { result ≡ true → IsCircle waits.now places.now }
 {
     places.len() >= 2 && places[0] == places[places.len() - 1] && is_chain(waits, places)
 }
 
-// The places from this one on, each that of the one for which the last waits, until it comes again.
+// Follows the waits from this place on until they return to it.
 fn way_round<A: Allocator>(
     alloc: A,
     waits: &[Wait],
@@ -126,8 +126,8 @@ fn way_round<A: Allocator>(
     Ok(way)
 }
 
-// Goes from one to the next from this place on, as long as no way came there before, and marks each with the number of
-// this way. Where it comes back to a place of its own, that is on a circle.
+// Follows the waits from `start` on to a place that is marked or has no next, and marks the places with `way`. If the walk
+// returns to a place of its own, that place is on a cycle.
 fn look_from(waits: &[Wait], ways: &mut [usize], start: usize, way: usize) -> Option<usize> {
     let mut place = start;
     for _ in 0..waits.len() {
@@ -145,8 +145,9 @@ fn look_from(waits: &[Wait], ways: &mut [usize], start: usize, way: usize) -> Op
     }
 }
 
-/// The deadlocks among transactions that wait, which stand in the order of their numbers: circles, each of places in
-/// `waits` of which each waits for the one at the next, and the last is the first again. Returns `Err` if memory runs out.
+/// The deadlocks among these waits, which are sorted by transaction. A deadlock is a waits-for cycle, given as places in
+/// `waits`: the transaction at each place waits for the one at the next, and the last place equals the first. Returns `Err`
+/// if memory runs out.
 pub fn deadlocks<A: Allocator + Copy>(
     alloc: A,
     waits: &[Wait],

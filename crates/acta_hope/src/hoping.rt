@@ -1,4 +1,4 @@
-//! What hope there is for a refused event, by the reason for which it is refused.
+//! Whether a refused event can be admitted later, derived from the reason for the refusal.
 
 ghost use Rattle.std.specs.Prelude.{◌≡◌, if◌then◌else◌, option_map, IfOk, IfSome};
 ghost use Rattle.acta_machine.specs.Changes.{summary_of};
@@ -13,33 +13,33 @@ use acta_machine::{BlockingEdge, Clash, Handle, Machine, NumberedOp, Reason};
 use acta_table::{Dep, Event, EventKind, Fate, MOST_EVENTS, OpNo, Rule, Scope, Status, TxnId};
 use std::alloc::AllocError;
 
-/// What hope there is for an event that is refused.
+/// What must happen before a refused event can be admitted.
 #[derive(Clone, Copy, PartialEq, Eq, Debug)]
 pub enum Hope {
     /// No later events let the machine admit it.
     Never,
-    /// It is admitted only where the transaction has begun.
+    /// It can be admitted only once the transaction has begun.
     OnceBegun(TxnId),
-    /// It is admitted only where the transaction holds the operation in progress.
+    /// It can be admitted only once the transaction holds the operation in progress.
     OnceHeld(TxnId, OpNo),
-    /// It is admitted only where the transaction has committed or aborted.
+    /// It can be admitted only once the transaction has committed or aborted.
     OnceDecided(TxnId),
-    /// It is admitted only where the transaction has committed.
+    /// It can be admitted only once the transaction has committed.
     OnceCommitted(TxnId),
-    /// It is admitted only where the transaction has aborted.
+    /// It can be admitted only once the transaction has aborted.
     OnceAborted(TxnId),
-    /// It is admitted only where the operation no longer stands in its way: it has ended, the acting transaction or one that
-    /// its class exempts holds it, or its holder has permitted the acting one to work on the object.
+    /// It can be admitted only once the operation no longer blocks it: the operation has ended, the acting transaction or
+    /// one that its class exempts holds it, or its holder has permitted the acting transaction to work on the object.
     OnceFree(OpNo),
-    /// It is admitted only where the transaction no longer holds the operation in progress.
+    /// It can be admitted only once the transaction no longer holds the operation in progress.
     OnceLetGo(TxnId, OpNo),
-    /// It is admitted only where one of those who hold what stands in its way no longer does.
+    /// It can be admitted only once at least one of the present conflicting holders is no longer one.
     OnceFewer,
     /// Nothing is known.
     Unknown,
 }
 
-// The hope where a transaction with this status has to be in progress.
+// The hope if a transaction with this status has to be in progress.
 fn once_begun(txn: TxnId, status: Status) -> Hope
     ensures { IsOfBegun txn status result }
 {
@@ -50,7 +50,7 @@ fn once_begun(txn: TxnId, status: Status) -> Hope
     }
 }
 
-// Where the one that acts has to hold the operation in progress.
+// The hope if the acting transaction has to hold the operation in progress.
 fn once_held<A: Handle>(event: &Event<A>, number: OpNo) -> Hope
     ensures { IsOfHeld event.now number result }
 {
@@ -60,7 +60,7 @@ fn once_held<A: Handle>(event: &Event<A>, number: OpNo) -> Hope
     }
 }
 
-// Where the one that acts may not hold the operation in progress.
+// The hope if the acting transaction may not hold the operation in progress.
 fn once_let_go<A: Handle>(event: &Event<A>, number: OpNo) -> Hope
     ensures { IsOfLeftOut event.now number result }
 {
@@ -76,14 +76,14 @@ fn has_ended(status: Status) -> bool
     !matches!(status, Status::NotBegun | Status::InProgress)
 }
 
-// Never, or this.
+// `Never` if `is_over`, otherwise the given hope.
 fn never_or(is_over: bool, hope: Hope) -> Hope
     ensures { result ≡ (if is_over then Hope.Never else hope) }
 {
     if is_over { Hope::Never } else { hope }
 }
 
-// Where an edge in force blocks it.
+// The hope if an edge in force blocks the event.
 fn blocked(blocking_edge: &BlockingEdge) -> Hope
     ensures { IsOfBlockingEdge blocking_edge.now result }
 {
@@ -111,8 +111,8 @@ fn is_wd(kind: Dep) -> bool
     matches!(kind, Dep::Wd)
 }
 
-// Where a transaction would owe both a commit and an abort. `i` is the status of the one on which the edge of the abort is.
-// By WD a transaction owes no abort if it committed before the other aborts.
+// The hope if a transaction would owe both a commit and an abort; `i` is the status of the transaction on which it depends
+// by the abort's edge. By WD a transaction owes no abort if it commits before the other aborts.
 fn owes_both(clash: &Clash, i: Status) -> Hope
     ensures { IsOfClash clash.now i result }
 {
@@ -123,7 +123,7 @@ fn owes_both(clash: &Clash, i: Status) -> Hope
     }
 }
 
-// Whether the transaction has begun, and its class allows no event by which it gives up operations.
+// Whether the transaction has begun, and its class allows no event that gives up or permits its operations.
 fn holds_on<A: Handle>(machine: &Machine<A>, holder: TxnId) -> bool
     ensures { result ≡ holds_on machine.now.model (summary_of machine.now.model machine.now.kept) holder.0 }
 {
@@ -157,7 +157,7 @@ fn in_conflict<A: Handle>(machine: &Machine<A>, event: &Event<A>, op: &NumberedO
     }
 }
 
-// Where more edges would be in force than there may be.
+// The hope if the event would exceed the limit of edges in force.
 fn too_many_edges<A: Handle>(event: &Event<A>) -> Hope
     ensures { IsOfEdges event.now result }
 {
@@ -174,7 +174,7 @@ fn is_no_operation(number: OpNo) -> bool
     number.0 == 0 || number.0 as usize > MOST_EVENTS
 }
 
-/// What hope there is for an event that the machine refuses for this reason.
+/// The hope for an event that the machine refuses for this reason.
 pub fn hope_of<A: Handle>(machine: &Machine<A>, event: &Event<A>, reason: &Reason) -> Hope
     requires { IsWhy machine.now event.now reason.now }
     ensures hope { Holds machine.now event.now result }
@@ -210,8 +210,8 @@ pub fn hope_of<A: Handle>(machine: &Machine<A>, event: &Event<A>, reason: &Reaso
     }
 }
 
-/// Why the machine would refuse the event if it came next, and what hope there is then; `None` if it would be admitted.
-/// Returns `Err` if memory runs out.
+/// Why the machine would refuse the event next, with the hope for it; `None` if the machine would admit it. Returns `Err` if
+/// memory runs out.
 pub fn why_and_hope<A: Handle>(
     machine: &Machine<A>,
     event: &Event<A>,

@@ -1,8 +1,7 @@
-//! What hope there is for an event that a machine refuses: whether later events can let the machine admit it, and what has
-//! to be so then.
+//! Whether an event that a machine refuses can be admitted after later events, and what must happen before that.
 //!
-//! Later events take nothing back (`laws`). So most reasons for a refusal last until a certain transaction has begun, holds an
-//! operation or has ended, or for ever. A `Hope` says which, and holds for each list of later events.
+//! Later events undo nothing (`laws`). So most reasons for a refusal last until a certain transaction has begun, holds an
+//! operation or has ended, or for ever. A `Hope` says which, and holds for every list of later events.
 //!
 //! A call that allocates returns `Err` if memory runs out.
 #![tactic(auto)]

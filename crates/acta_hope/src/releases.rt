@@ -12,14 +12,14 @@ use acta_machine::{Handle, Machine};
 use acta_sets::HeldOp;
 use acta_table::{AtCommit, Class, Event, EventKind, OpNo, Scope, TxnId};
 
-/// A way in which the holder of an operation can let it go.
+/// A way in which a holder gives up an operation or permits another transaction.
 #[derive(Clone, Copy, PartialEq, Eq, Debug)]
 pub enum Release {
     /// It commits.
     Commit,
     /// It aborts.
     Abort,
-    /// It delegates the operation to the transaction in whose way it stands.
+    /// It delegates the operation to the blocked transaction.
     Delegate,
     /// It joins that transaction.
     Join,
@@ -45,8 +45,8 @@ pub(crate) fn may_do<A: Handle>(machine: &Machine<A>, t: TxnId, kind: EventKind)
     }
 }
 
-/// Who inherits the transaction's operations when it commits: its parent, if its class commits to parents. Otherwise the
-/// operations are committed.
+/// The heir of the transaction's operations when it commits: its parent, if its class commits to parents. Otherwise `None`:
+/// the operations are committed.
 pub fn heir<A: Handle>(machine: &Machine<A>, t: TxnId) -> Option<TxnId>
     ensures { result ≡ heir_of machine.now.model (summary_of machine.now.model machine.now.kept) t.0 }
 {
@@ -102,7 +102,7 @@ fn frees_at_commit<A: Handle>(machine: &Machine<A>, t: TxnId, holder: TxnId) -> 
     }
 }
 
-// Whether the holder may let go so, as far as `t` goes.
+// Whether the holder may release its operations in this way for `t`.
 fn may_release<A: Handle>(machine: &Machine<A>, t: TxnId, holder: TxnId, release: Release) -> bool
     ensures { result ≡ may_release machine.now.model (summary_of machine.now.model machine.now.kept) t.0 holder.0 release }
 {
@@ -117,7 +117,7 @@ fn may_release<A: Handle>(machine: &Machine<A>, t: TxnId, holder: TxnId, release
     }
 }
 
-/// The operation of this number, with its holder and its fate. `None` where there is none.
+/// The operation with this number, with its holder and its fate. `None` if there is none.
 pub fn operation_at<A: Handle>(machine: &Machine<A>, number: OpNo) -> Option<HeldOp>
     ensures { result ≡ operation_at (operations_in machine.now) number.0 }
 {
@@ -125,9 +125,9 @@ pub fn operation_at<A: Handle>(machine: &Machine<A>, number: OpNo) -> Option<Hel
     machine.operations().get(place).copied()
 }
 
-/// Whether the class of the operation's holder lets it go so, as far as the event goes: right after the holder has done
-/// it, if it is admitted, the operation no longer stands in the event's way. `false` where the event does no operation, or
-/// there is no operation of this number.
+/// Whether the class of the operation's holder allows this release. If so, the operation no longer blocks the event right
+/// after the holder's release is admitted. `false` if the event is not an operation, or if there is no operation with this
+/// number.
 pub fn lets_go<A: Handle>(
     machine: &Machine<A>,
     event: &Event<A>,

@@ -1,4 +1,4 @@
-//! Transactions that never begin.
+//! Transactions that can never begin.
 
 ghost use Rattle.std.specs.Prelude.{◌≡◌, Some, IfOk, false, length, set, true};
 ghost use Rattle.acta_table.specs.Numbered.{item_at};
@@ -9,7 +9,7 @@ use acta_machine::{Handle, Machine};
 use acta_table::{Dep, Edge, Status, TABLE_SIZE};
 use std::alloc::AllocError;
 
-// Whether an edge of this kind keeps its transaction from ever starting, if the other one has this status.
+// Whether an edge of this kind keeps its dependent transaction from ever starting, if the other has this status.
 fn bars_start(kind: Dep, status: Status) -> bool
     ensures { result ≡ bars_start kind status }
 {
@@ -21,7 +21,7 @@ fn bars_start(kind: Dep, status: Status) -> bool
     }
 }
 
-// Whether by the edge the one that depends, which has not begun, never begins.
+// Whether the edge keeps its dependent transaction, which has not begun, from ever beginning.
 fn is_lost_by<A: Handle>(machine: &Machine<A>, edge: &Edge) -> bool
     ensures { result ≡ is_lost_by (status_in machine.now) edge.now }
 {
@@ -29,7 +29,7 @@ fn is_lost_by<A: Handle>(machine: &Machine<A>, edge: &Edge) -> bool
         && bars_start(edge.kind, machine.status(edge.i))
 }
 
-// Notes the edge of this number for the one that depends by it, if that never begins by it.
+// Notes the number of the edge for its dependent transaction, if the edge keeps that from ever beginning.
 fn note<A: Handle>(machine: &Machine<A>, number: u32, edge: &Edge, lost: &mut [u32])
     requires at { item_at (edges_in machine.now) number ≡ Some edge.now }
     requires lost { AreLost machine.now lost.old }
@@ -43,9 +43,9 @@ fn note<A: Handle>(machine: &Machine<A>, number: u32, edge: &Edge, lost: &mut [u
     }
 }
 
-/// For each transaction, by its number, the last edge by which it never begins, as the number of the edge, or 0. By a
-/// dependency in force it begins only after another has committed, has aborted, or either; and that one has ended
-/// otherwise. Returns `Err` if memory runs out.
+/// For each transaction number, the number of the last edge that keeps the transaction from ever beginning, or 0. Such an
+/// edge lets it begin only after another transaction commits, aborts, or either, and that one has ended otherwise. Returns
+/// `Err` if memory runs out.
 pub fn never_begin<A: Handle>(alloc: A, machine: &Machine<A>) -> Result<Vec<u32, A>, AllocError>
     ensures lost { IfOk result (λ lost. AreLost machine.now lost.items) }
     ensures long { IfOk result (λ lost. length lost.items ≡ TABLE_SIZE) }

@@ -1,4 +1,4 @@
-//! Transactions that wait for one another to end, for ever.
+//! Transactions that wait for each other to end, for ever.
 
 ghost use Rattle.std.specs.Prelude.{IfOk, IfSome};
 ghost use Rattle.acta_deps.specs.Waiting.{IsChain, IsClosed, StartsWith};
@@ -9,10 +9,9 @@ use acta_machine::{Handle, Machine};
 use acta_table::{Items, TxnId};
 use std::alloc::AllocError;
 
-/// A chain of transactions from `t` on, each of which waits for the next to commit or abort, by a termination
-/// dependency in force between the two; it ends with one that it met before. Whatever events come, none of them ever
-/// commits or aborts (they may still join others). `None` where no such chain was found. Returns `Err` if memory runs
-/// out.
+/// A chain of transactions from `t` on, each waiting for the next to commit or abort, by a termination dependency in force.
+/// The last transaction has occurred in the chain before. Whatever events come, none of them ever commits or aborts (they
+/// may still join others). `None` if no such chain was found. Returns `Err` if memory runs out.
 pub fn endless_wait<A: Handle>(
     machine: &Machine<A>,
     t: TxnId,

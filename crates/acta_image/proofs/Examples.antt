@@ -1,4 +1,4 @@
--- Examples: a model's image in both versions, and what comes of images that are not good.
+-- Examples: a model's image in both versions, and the faults of bad images.
 use Rattle.std.specs.Prelude.{ℕ, pos, true, false, List, [], ◌∷◌, ◌++◌, map, take, slice_set, Result, Ok, Err, codes, ◌≡◌, refl}
 use Rattle.acta_table.specs.declared.model.AtCommit.TheVariants.{Keeps}
 use Rattle.acta_table.specs.declared.model.Class.{Class}
@@ -17,7 +17,7 @@ use Rattle.acta_image.specs.declared.version.ImageVersion.TheVariants.{One}
 use Rattle.acta_image.specs.Spelling.{image, image_in}
 use Rattle.acta_image.specs.Reading.{read_magic, read_head, read_edges, read_object, read_class, read_parts, diagnosed, loaded, upgraded}
 
--- a class that starts by begin, by the bits of what it may do
+-- a class that starts by begin, with these bits of allowed events
 abbrev class : List ℕ → ℕ → Class (Unit {0})
 class name may = record { name = name; starts = record { begin = true; spawned = false; split = false }; may = may; scope = Others; policy = Refuse; at_commit = Keeps; extent = Whole; spawn_edges = []; split_edges = [] }
 
@@ -34,7 +34,7 @@ flat_spelled : image flat ≡ flat_image
 unfolding image_in
 flat_spelled = refl
 
--- in version 1 another byte behind the magic, and nothing else
+-- version 1 has another byte after the magic, and is otherwise the same
 abbrev old_image : List ℕ
 old_image = slice_set flat_image 4 1
 
@@ -53,12 +53,12 @@ old_read : read old_image ≡ Ok flat
 unfolding read_magic read_head read_edges read_object read_class read_parts diagnosed loaded
 old_read = refl
 
--- an image of version 1 is upgraded to that of version 2, which stays as it is
+-- an image of version 1 is upgraded to that of version 2, which stays unchanged
 flat_upgraded : map (λ bytes. upgraded (Unit {0}) bytes) (old_image ∷ flat_image ∷ []) ≡ Ok flat_image ∷ Ok flat_image ∷ []
 unfolding read_magic read_head read_edges read_object read_class read_parts diagnosed loaded image_in
 flat_upgraded = refl
 
--- 256 in what they may do is a permit, which version 1 has not; version 2 has nothing above it
+-- 256 in the allowed events is a permit, which version 1 lacks; version 2 allows nothing above it
 permits : map (λ (p : ℕ × ℕ). read (slice_set (slice_set flat_image 4 p.0) 21 p.1)) ((2, 1) ∷ (1, 1) ∷ (2, 2) ∷ [])
     ≡ Ok (record flat { classes = class (codes "flat") 480 ∷ [] }) ∷ Err (BadField 21) ∷ Err (BadField 21) ∷ []
 unfolding read_magic read_head read_edges read_object read_class read_parts diagnosed loaded
@@ -86,7 +86,7 @@ turned : map (λ (p : ℕ × ℕ). read (slice_set flat_image p.0 p.1)) ((4, 0) 
 unfolding read_magic read_head read_edges read_object read_class read_parts diagnosed loaded
 turned = refl
 
--- the field that has the fault, and where it begins: cut short, with a byte more, with a wrong byte, without a model
+-- the faulty field and its offset: truncated, with a trailing byte, with a wrong byte, without a valid model
 abbrev placed : Result (Parts (Unit {0})) ImageDiagnostic → Field × ℕ
 placed (Ok m) = (at.End, 0)
 placed (Err d) = (d.field, d.offset)

@@ -1,4 +1,4 @@
--- Each field of a fixed length: what its bytes stand for, and which bytes stand for it.
+-- Each field of fixed length: the value of its bytes, and the bytes of its values.
 use Rattle.std.proofs.Common.{◌≡◌, ℕ, zero, suc, ◌^◌, ◌<◌, ◌≤◌, Bool, true, false, cond, ltb, leb, ◌&&◌, ◌==◌, List, [], ◌∷◌, ◌++◌, length, take, drop, Option, Some, None, Result, Ok, Err, refl, sym, ap, subst, ◌∙◌, arith, ℤ}
 use Rattle.std.specs.Prelude.{nat_le, nat_eq, bit_and, not, ◌-◌, FitsSigned, ⊤, if◌then◌else◌, option_map, slice_index}
 use Rattle.std.specs.Int.{w16, w32, from_be_bytes, to_be_bytes, cast_unsigned, cast_signed}
@@ -58,7 +58,7 @@ found-ok {X} d rest (Some y) x r e =
     let p : (y, rest) ≡ (x, r) = done-is (y, rest) (x, r) e in
     (ap (λ (q : X × List ℕ). Some q.0) p, ap (λ (q : X × List ℕ). q.1) p)
 
--- n bytes stand for a value that is allowed, each value by one spelling
+-- n bytes encode an allowed value, and each value has one encoding
 pub record IsCode {X : Type 0} (n : ℕ) (read : List ℕ → Option X) (spell : X → List ℕ) (Allowed : X → Type 0) : Type 0 where
   pub len : (x : X) → Allowed x → length (spell x) ≡ n
   pub again : (x : X) → Allowed x → read (spell x) ≡ Some x
@@ -86,7 +86,7 @@ module _ {X : Type 0} {n : ℕ} {read : List ℕ → Option X} {spell : X → Li
   pub field-format : (which : Field) (size : ℕ) → IsFormat (field which size n read) spell Allowed
   field-format which size = record { takes = λ bytes. field-takes _ which size bytes; again = λ x rest. field-again _ which size x rest }
 
--- ---- what the bytes of each field stand for
+-- ---- the values of each field's bytes
 
 pub byte-code : (least most : ℕ) → IsCode 1 (byte_in least most) byte (λ b. (least ≤ b) × (b ≤ most))
 byte-code least most = record {
@@ -290,7 +290,7 @@ extent-again Any = refl
 pub extent-format : IsCode 1 extent_in (λ x. byte (extent_code x)) (λ x. ⊤)
 extent-format = choice-code Whole Any extent_code refl refl extent-within extent-again
 
--- the kinds of a policy, behind its code
+-- the kinds of a policy, after its code
 abbrev pub IsPolicyOf : ℕ → Policy → Type 0
 IsPolicyOf code p = HasDeps p × (policy_code p ≡ code)
 

@@ -1,4 +1,4 @@
--- A reader and a spelling that belong together, and how such are put one behind the other.
+-- A reader that matches a spelling, and how such pairs are combined one after the other.
 use Rattle.std.proofs.Common.{◌≡◌, ℕ, zero, suc, ◌+◌, List, [], ◌∷◌, ◌++◌, length, take, drop, Result, Ok, Err, refl, sym, ap, subst, ◌∙◌, append_assoc, arith, inl, inr}
 use Rattle.std.specs.List.{flat_map, AllByRecursion}
 use Rattle.std.proofs.lemmas.Bool.{cases_lt}
@@ -32,7 +32,7 @@ done x = Ok x
 pub done-is : {X : Type 0} (x y : X) → done x ≡ done y → x ≡ y
 done-is x y e = cc
 
--- what a reader took from the front
+-- the bytes that a reader took from the front
 pub record Takes (bytes text rest : List ℕ) : Type 0 where
   pub parts : bytes ≡ text ++ rest
   pub fits : AreBytes rest
@@ -40,12 +40,12 @@ pub record Takes (bytes text rest : List ℕ) : Type 0 where
 pub takes-then : (a x b y c : List ℕ) → Takes a x b → Takes b y c → Takes a (x ++ y) c
 takes-then a x b y c p q = record { parts = p.parts ∙ ap (λ (t : List ℕ). x ++ t) q.parts ∙ sym (append_assoc x y c); fits = q.fits }
 
--- what is read is spelled so and allowed, and what is allowed is read where it is spelled so
+-- a value that is read is allowed, and was spelled so; an allowed value is read from its spelling
 pub record IsFormat {X : Type 0} (read : Reader X) (spell : X → List ℕ) (Allowed : X → Type 0) : Type 0 where
   pub takes : (bytes : List ℕ) (x : X) (rest : List ℕ) → AreBytes bytes → read bytes ≡ Ok (x, rest) → Takes bytes (spell x) rest × Allowed x
   pub again : (x : X) (rest : List ℕ) → Allowed x → read (spell x ++ rest) ≡ Ok (x, rest)
 
--- one part of a value, and then the others, which tell what it is
+-- one part of a value, and then the others, which determine it
 pub then-format : {X Y : Type 0} {read : Reader X} {spell : X → List ℕ} {Allowed : X → Type 0} → IsFormat read spell Allowed →
     (part : Y → X) (next : X → Reader Y) (others : Y → List ℕ) (Others : X → Y → Type 0) → ((x : X) → Allowed x → IsFormat (next x) others (Others x)) → ((x : X) → Allowed x → (y : Y) → Others x y → part y ≡ x) →
     IsFormat (read >>= next) (λ y. spell (part y) ++ others y) (λ y. Allowed (part y) × Others (part y) y)
@@ -84,7 +84,7 @@ last-format {X} {Y} {read} {spell} {Allowed} last part make part-made = record {
       (last.again (part y) after ok.0) (ap (λ (z : Y). done (z, after)) ok.1);
 }
 
--- the same, spelled and allowed in other words
+-- the same, with other definitions of spelling and allowed values
 pub parsed-format : {X : Type 0} {read : Reader X} {spell : X → List ℕ} {Allowed : X → Type 0} → IsFormat read spell Allowed → (other : X → List ℕ) (Other : X → Type 0)
     → ((x : X) → spell x ≡ other x) → ((x : X) → Allowed x → Other x) → ((x : X) → Other x → Allowed x) → IsFormat read other Other
 parsed-format {X} {read} {spell} {Allowed} format other Other same to from = record {

@@ -1,4 +1,4 @@
--- What is loaded is a model with this image, and an image is loaded as its model.
+-- An image is loaded as its model, and only images of a model are loaded as it.
 use Rattle.std.proofs.Common.{◌≡◌, ℕ, zero, suc, ◌-◌, ◌^◌, ◌<◌, ◌≤◌, Bool, true, false, not, ◌&&◌, ◌||◌, ◌==◌, eqb, List, [], ◌∷◌, ◌++◌, length, map, Option, Some, None, Ok, Err, Result, refl, sym, ap, subst, ◌∙◌, append-nil, arith}
 use Rattle.std.specs.Prelude.{nat_lt}
 use Rattle.std.specs.List.{All, AllByRecursion, flat_map, list_all, list_any}
@@ -47,7 +47,7 @@ policy-small : (p : Policy) → policy_code p ≤ 1
 policy-small Refuse = omega arith
 policy-small (Depend kinds) = omega arith
 
--- what is said of an object, and of a class in a version
+-- the spellings of an object, and of a class in a version
 abbrev ObjectSaid : {A : Type 0} → Object A → Type 0
 ObjectSaid o = (is_name o.name ≡ true) × HasFirst o.kind
 
@@ -102,7 +102,7 @@ class-format {A} version size =
     (λ c ok. (ok.1.0.0, (record { may = let le = ok.1.1.1.0 in let small = most-small version in omega (arith, le, small); policy = ok.1.1.1.1.1.1.0.0; spawn_edges = ok.1.1.1.1.1.1.1.1.1.0; split_edges = ok.1.1.1.1.1.1.1.1.1.1.0 }, ok.1.1.1.0)))
     (λ c ok. (name-long c.name ok.0, ((ok.0, refl), (tt, (ok.1.1, (tt, ((omega arith, policy-small c.policy), ((ok.1.0.policy, refl), (tt, (tt, (ok.1.0.spawn_edges, (ok.1.0.split_edges, refl))))))))))))
 
--- what is said of what stands behind the magic
+-- the spelling after the magic
 abbrev HeadSaid : Head → Type 0
 HeadSaid h = ((1 ≤ h.classes) × (h.classes ≤ MOST_CLASSES)) × (h.objects ≤ MOST_OBJECTS)
 
@@ -119,21 +119,21 @@ header-format size =
     (λ start s h r. s))
     _ _ (λ h. refl) (λ h ok. (ok.1.1.0, ok.1.1.1.0)) (λ h ok. (refl, (tt, (ok.0, (ok.1, refl)))))
 
--- the objects and the classes behind a head
+-- the objects and the classes after a head
 abbrev behind : {A : Type 0} → Head → ℕ → Reader (Parts A)
 behind h size = do
   objects ← read_items (read_object size) h.objects
   classes ← read_items (read_class h.version size) h.classes
   give (record { objects = objects; classes = classes })
 
--- what is said of parts by the fields, in a version
+-- the spelling of parts by their fields, in a version
 record PartsSaid {A : Type 0} (version : ImageVersion) (m : Parts A) : Type 0 where
   classes : (1 ≤ length m.classes) × (length m.classes ≤ MOST_CLASSES)
   objects : length m.objects ≤ MOST_OBJECTS
   of_objects : AllByRecursion ObjectSaid m.objects
   of_classes : AllByRecursion (ClassSaid version) m.classes
 
--- what is said of parts behind a head
+-- the spelling of parts after a head
 record IsBehind {A : Type 0} (h : Head) (m : Parts A) : Type 0 where
   classes : length m.classes ≡ h.classes
   objects : length m.objects ≡ h.objects
@@ -150,7 +150,7 @@ behind-format {A} h size =
     (λ m ok. record { classes = ok.1.0.0; objects = ok.0.0; of_objects = ok.0.1; of_classes = ok.1.0.1 })
     (λ m ok. ((ok.objects, ok.of_objects), ((ok.classes, ok.of_classes), refl)))
 
--- ---- what a model without fault says
+-- ---- a model without fault
 
 or-none : (a b : Option ModelFault) → option_or a b ≡ None → (a ≡ None) × (b ≡ None)
 or-none None b e = (refl, e)
@@ -180,7 +180,7 @@ all-firsts : {X : Type 0} (P Q : X → Type 0) (xs : List X) → AllByRecursion 
 all-firsts P Q [] p = tt
 all-firsts P Q (x ∷ xs) p = (p.0.0, all-firsts P Q xs p.1)
 
--- what holds of each element, told by places and one by one
+-- a property of each element, by places and one by one
 each : {X : Type 0} (P : X → Type 0) (xs : List X) → All P xs → AllByRecursion P xs
 each P [] all = tt
 each P (x ∷ xs) all = (all 0 x (omega arith), each P xs (λ k d within. all (suc k) d (omega arith)))
@@ -266,7 +266,7 @@ checked-ok : {A : Type 0} (size : ℕ) (m n : Parts A) (o : Option ModelFault) �
 checked-ok size m n None e = (refl, done-is m n e)
 checked-ok size m n (Some fault) e = absurd cc
 
--- what has no fault without the field had none with it, and what has one had it
+-- without the field, a result has a fault exactly if it had one with the field
 without_field-ok : {X : Type 0} (r : Result X ImageDiagnostic) (x : X) → without_field r ≡ Ok x → r ≡ Ok x
 without_field-ok (Ok y) x e = cc
 without_field-ok (Err d) x e = absurd cc

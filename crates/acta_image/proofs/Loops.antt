@@ -8,7 +8,7 @@ use Rattle.acta_image.specs.declared.diagnostic.ReadError.TheVariants as errors
 use Rattle.acta_image.specs.inside.Gives.{IsWhyRead}
 use Rattle.acta_image.specs.Reading.{Reader, and_then, field, row_in, rank, read_items, read_rows}
 
--- what was read before, and what is still read
+-- the items read before, and those still read
 abbrev pub on_front : {X : Type 0} → List X → Result (List X × List ℕ) ImageDiagnostic → Result (List X × List ℕ) ImageDiagnostic
 on_front front read = and_then read (λ x. Ok (front ++ x.0, x.1))
 

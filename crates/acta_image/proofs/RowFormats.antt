@@ -24,7 +24,7 @@ use Rattle.acta_image.specs.inside.Gives.{AreBytes}
 use Rattle.acta_image.proofs.Formats.{then-ok, then-is, done, done-is, Takes, takes-then, IsFormat, then-format, parsed-format}
 use Rattle.acta_image.proofs.FieldCodes.{guard-ok, found-ok, some-ok, some-is, IsCode, field-format, byte-code}
 
--- start edges in their order, each once
+-- start edges in canonical order, each once
 abbrev pub Sorted : List StartEdge → Type 0
 Sorted es = IsStrictlySortedBy start_edge_cmp es
 
@@ -110,7 +110,7 @@ row-code least = record {
     row-back (a ∷ b ∷ c ∷ more) two e f = absurd (omega (arith, two))
     row-back (a ∷ b ∷ []) two e f = of_edge a b e (edge_in a b) refl f
 
--- start edges of rising rank, the first of this rank at least
+-- start edges of ascending rank, the first of at least this rank
 abbrev pub Ascends : ℕ → List StartEdge → Type 0
 Ascends least [] = Unit {0}
 Ascends least (e ∷ es) = (least ≤ rank e) × Ascends (suc (rank e)) es
@@ -142,7 +142,7 @@ rows-again row size least (suc n) (e ∷ es) rest len ok =
 rows-format : (row : Field) (size least n : ℕ) → IsFormat (read_rows row size least n) (flat_map row_bytes) (λ es. (length es ≡ n) × Ascends least es)
 rows-format row size least n = record { takes = rows-take row size least n; again = λ es rest ok. rows-again row size least n es rest ok.0 ok.1 }
 
--- ---- ascending by rank is ascending in their order
+-- ---- ascending by rank is ascending in canonical order
 
 code-small : (kind : Dep) → code_of kind ≤ 11
 code-small Cd = omega arith
@@ -199,7 +199,7 @@ ascends-few least (e ∷ es) le ok =
     let few = ascends-few (suc (rank e)) es (omega (arith, code, side)) ok.1 in
     omega (arith, first, few)
 
--- how many rows, and the rows
+-- the number of rows, and the rows
 pub edges-format : (counted row : Field) (size : ℕ) → IsFormat (read_edges counted row size) rows_bytes Sorted
 unfolding read_edges
 edges-format counted row size =
@@ -211,7 +211,7 @@ edges-format counted row size =
     from_zero [] = tt
     from_zero (e ∷ es) = (omega arith, from_zero es)
 
--- a row that was read has the rank that it has to have
+-- a row that was read has at least the rank required
 row-least : (least : ℕ) (fault : ImageFault) (row : Field) (size : ℕ) (bytes : List ℕ) (e : StartEdge) (rest : List ℕ) → field_or fault row size 2 (row_in least) bytes ≡ Ok (e, rest) → least ≤ rank e
 row-least least fault row size bytes e rest is =
     let g = guard-ok (ltb (length bytes) 2) (fault_at Truncated row size bytes) (found_or (fault_at fault row size bytes) (drop 2 bytes) (row_in least (take 2 bytes))) (e, rest) is in
@@ -222,7 +222,7 @@ row-least least fault row size bytes e rest is =
     of_edge None f = absurd cc
     of_edge (Some x) f = let s = some-ok (leb least (rank x)) x e f in subst (λ (y : StartEdge). least ≤ rank y) s.1 (leb-true _ _ s.0)
 
--- rows that were read ascend
+-- rows that were read are ascending
 rows-ascend : (row : Field) (size least n : ℕ) (bytes : List ℕ) (es : List StartEdge) (rest : List ℕ) → read_rows row size least n bytes ≡ Ok (es, rest) → Ascends least es
 rows-ascend row size least zero bytes es rest e = subst (λ (y : List StartEdge × List ℕ). Ascends least y.0) (done-is ([], bytes) (es, rest) e) tt
 rows-ascend row size least (suc n) bytes es rest e =

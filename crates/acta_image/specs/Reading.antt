@@ -1,5 +1,5 @@
--- Reading an image from left to right, field by field: a value and the bytes behind it, or the first fault, with the
--- field that has it.
+-- Reads an image from left to right, field by field. A reader returns a value with the bytes after it, or the first fault
+-- with its field.
 use Rattle.std.specs.Prelude.{ℕ, zero, suc, ◌+◌, ◌-◌, ◌*◌, Bool, ◌&&◌, ◌==◌, nat_lt, nat_le, List, [], ◌∷◌, length, take, drop, slice_get, slice_index, Option, Some, None, option_map, option_and_then, Result, Ok, Err, if◌then◌else◌}
 use Rattle.std.specs.Int.{w16, w32, from_be_bytes, cast_signed}
 use Rattle.std.specs.Str.{bytes_eq}
@@ -37,59 +37,58 @@ use Rattle.acta_image.specs.declared.version.ImageVersion.TheVariants.{One, Two}
 use Rattle.acta_image.specs.Codes.{magic, most_may}
 use Rattle.acta_image.specs.Spelling.{image}
 
--- a reader: what the first bytes give, and the bytes behind them, or the first fault with its field
+-- a reader: the value of the first bytes with the bytes after them, or the first fault with its field
 abbrev pub Reader : Type 0 → Type 0
 Reader X = List ℕ → Result (X × List ℕ) ImageDiagnostic
 
--- what comes of what was read, where there was no fault
+-- the second step applied to the value of the first, or the first's fault
 abbrev pub and_then : {X Y E : Type 0} → Result X E → (X → Result Y E) → Result Y E
 and_then (Ok x) next = next x
 and_then (Err fault) next = Err fault
 
--- one reader, and then another, given what the first has read
+-- one reader, then another that depends on its value
 infixl 10 ◌>>=◌
 abbrev pub ◌>>=◌ : {X Y : Type 0} → Reader X → (X → Reader Y) → Reader Y
 read >>= next = λ bytes. and_then (read bytes) (λ x. next x.0 x.1)
 
--- nothing is read, and this is given
+-- reads nothing and returns this value
 abbrev pub give : {X : Type 0} → X → Reader X
 give x = λ bytes. Ok (x, bytes)
 
--- what was found in a field, and the bytes behind it; the fault, where nothing is allowed
+-- the value of a field with the bytes after it, or the fault if the field has no allowed value
 abbrev pub found_or : {X : Type 0} → ImageDiagnostic → List ℕ → Option X → Result (X × List ℕ) ImageDiagnostic
 found_or fault rest None = Err fault
 found_or fault rest (Some x) = Ok (x, rest)
 
--- the offset at which these bytes begin, which are left of an image of this size
+-- the offset of these bytes, the rest of an image of this size
 abbrev pub offset_of : ℕ → List ℕ → ℕ
 offset_of size bytes = size - length bytes
 
--- this fault, at this field, which begins where these bytes do
+-- the fault at this field, which begins with these bytes
 abbrev pub fault_at : ImageFault → Field → ℕ → List ℕ → ImageDiagnostic
 fault_at fault which size bytes = record { fault = fault; field = which; offset = offset_of size bytes }
 
--- a field of n bytes, and the bytes behind it: truncated where fewer are left, and the fault where they
--- stand for nothing that is allowed
+-- a field of n bytes, and the bytes after it: `Truncated` if fewer are left, and the fault if they encode no allowed value
 abbrev pub field_or : {X : Type 0} → ImageFault → Field → ℕ → ℕ → (List ℕ → Option X) → Reader X
 field_or fault which size n read bytes =
     if nat_lt (length bytes) n then Err (fault_at Truncated which size bytes)
     else found_or (fault_at fault which size bytes) (drop n bytes) (read (take n bytes))
 
--- a field whose fault is its offset
+-- a field whose fault is `BadField` with its offset
 abbrev pub field : {X : Type 0} → Field → ℕ → ℕ → (List ℕ → Option X) → Reader X
 field which size n read bytes = field_or (BadField (offset_of size bytes)) which size n read bytes
 
--- the value, where the test is true
+-- the value, if the test is true
 abbrev pub some_if : {X : Type 0} → Bool → X → Option X
 some_if test x = if test then Some x else None
 
--- a byte from least to most
+-- a byte in the range from least to most
 abbrev pub byte_in : ℕ → ℕ → List ℕ → Option ℕ
 byte_in least most bytes =
     let b = slice_index bytes 0 in
     some_if (nat_le least b && nat_le b most) b
 
--- a number of two bytes that is at most this
+-- a number of two bytes, up to a maximum
 abbrev pub number_to : ℕ → List ℕ → Option ℕ
 number_to most bytes = some_if (nat_le (from_be_bytes w16 bytes) most) (from_be_bytes w16 bytes)
 
@@ -97,7 +96,7 @@ number_to most bytes = some_if (nat_le (from_be_bytes w16 bytes) most) (from_be_
 abbrev pub name_by : List ℕ → Option (List ℕ)
 name_by bytes = some_if (is_name bytes) bytes
 
--- a first value, behind the code of the kind
+-- a first value, after the code of the kind
 abbrev pub kind_in : ℕ → List ℕ → Option Kind
 kind_in code bytes =
     let n = from_be_bytes w32 bytes in
@@ -125,17 +124,17 @@ commit_in bytes = choice_in Keeps ToParent bytes
 abbrev pub extent_in : List ℕ → Option Extent
 extent_in bytes = choice_in Whole Any bytes
 
--- the kinds of a policy, behind its code: none where it refuses
+-- the kinds of a policy, after its code: none if it refuses
 abbrev pub policy_in : ℕ → List ℕ → Option Policy
 policy_in code bytes =
     let n = from_be_bytes w16 bytes in
     if code == 0 then some_if (n == 0) Refuse else some_if (nat_le n 4095) (Depend n)
 
--- who depends, by a byte that is 0 or 1
+-- the end that depends, by a byte that is 0 or 1
 abbrev pub dependent_in : ℕ → Option Dependent
 dependent_in b = if b == 0 then Some Starter else some_if (b == 1) Started
 
--- the place of a start edge in their order
+-- the rank of a start edge in the canonical order
 abbrev pub rank : StartEdge → ℕ
 rank e = 2 * code_of e.kind + rank_of e.dependent
 
@@ -144,12 +143,12 @@ abbrev pub edge_in : ℕ → ℕ → Option StartEdge
 edge_in kind dependent =
     option_and_then (λ k. option_map (λ d. record { kind = k; dependent = d }) (dependent_in dependent)) (slice_get all_kinds kind)
 
--- the start edge of a row of two bytes, if it stands behind those of lower rank: its rank is at least this
+-- the start edge of a row of two bytes, if its rank is at least this
 abbrev pub row_in : ℕ → List ℕ → Option StartEdge
 row_in least bytes =
     option_and_then (λ e. some_if (nat_le least (rank e)) e) (edge_in (slice_index bytes 0) (slice_index bytes 1))
 
--- n rows, each of higher rank than the one before it, the first of this rank at least
+-- n rows in ascending order of rank, the first of at least this rank
 abbrev pub read_rows : Field → ℕ → ℕ → ℕ → Reader (List StartEdge)
 read_rows row size least zero = give []
 read_rows row size least (suc n) = do
@@ -157,7 +156,7 @@ read_rows row size least (suc n) = do
   others ← read_rows row size (suc (rank first)) n
   give (first ∷ others)
 
--- how many rows, and the rows
+-- the number of rows, and the rows
 unfoldable pub read_edges : Field → Field → ℕ → Reader (List StartEdge)
 read_edges counted row size = do
   count ← field counted size 1 (byte_in 0 24)
@@ -198,7 +197,7 @@ read_class version size = do
     split_edges = split_edges;
   })
 
--- n items, each read so
+-- n items, each by the same reader
 abbrev pub read_items : {X : Type 0} → Reader X → ℕ → Reader (List X)
 read_items read zero = give []
 read_items read (suc n) = do
@@ -206,7 +205,7 @@ read_items read (suc n) = do
   others ← read_items read n
   give (first ∷ others)
 
--- the magic, at the beginning of an image; a byte that is there and differs comes before one that is not there
+-- the magic at the beginning of an image; a wrong byte is reported even if later ones are missing
 unfoldable pub read_magic : Reader (List ℕ)
 read_magic bytes =
     if bytes_eq (take 4 bytes) (take (length bytes) magic)
@@ -219,11 +218,11 @@ version_in bytes =
     let n = slice_index bytes 0 in
     if n == 1 then Some One else some_if (n == 2) Two
 
--- the version that an image names, behind the magic: the second, where it is not the first
+-- the version after the magic: 1 if the byte is 1, otherwise 2
 abbrev pub version_of : List ℕ → ImageVersion
 version_of bytes = if slice_index bytes 4 == 1 then One else Two
 
--- the version, how many classes and how many objects, behind the magic
+-- the version and the numbers of classes and of objects, after the magic
 unfoldable pub read_head : ℕ → Reader Head
 read_head size = do
   start ← read_magic
@@ -232,12 +231,12 @@ read_head size = do
   objects ← field at.Objects size 2 (number_to MOST_OBJECTS)
   give (record { version = version; classes = classes; objects = objects })
 
--- what was read, or its fault without the field
+-- the result without the field of a fault
 abbrev pub without_field : {X : Type 0} → Result X ImageDiagnostic → Result X ImageFault
 without_field (Ok x) = Ok x
 without_field (Err d) = Err d.fault
 
--- the same without the field of a fault
+-- the magic and the head, without the field of a fault
 abbrev pub read_header : ℕ → List ℕ → Result (Head × List ℕ) ImageFault
 read_header size bytes = without_field (read_head size bytes)
 
@@ -249,25 +248,25 @@ read_parts size = do
   classes ← read_items (read_class head.version size) head.classes
   give (record { objects = objects; classes = classes })
 
--- the parts, where they have no fault, of an image of this size
+-- the parts of an image of this size, if they have no fault of models
 abbrev pub checked : {A : Type 0} → ℕ → Parts A → Option ModelFault → Result (Parts A) ImageDiagnostic
 checked size m None = Ok m
 checked size m (Some fault) = Err (fault_at (Model fault) at.End size [])
 
--- the parts that were read, where no byte is left and they have no fault
+-- the parts that were read, if no byte is left and they have no fault of models
 abbrev pub finished : {A : Type 0} → ℕ → Parts A × List ℕ → Result (Parts A) ImageDiagnostic
 finished size x =
     if length x.1 == 0 then checked size x.0 (lowest_fault x.0)
     else Err (fault_at (Trailing (offset_of size x.1)) at.End size x.1)
 
--- what the bytes give: a model, or their first fault, with the field that has it
+-- the model that the bytes encode, or their first fault with its field
 unfoldable pub diagnosed : {A : Type 0} → List ℕ → Result (Parts A) ImageDiagnostic
 diagnosed bytes = and_then (read_parts (length bytes) bytes) (finished (length bytes))
 
--- what the bytes give: a model, or their first fault
+-- the model that the bytes encode, or their first fault
 unfoldable pub loaded : {A : Type 0} → List ℕ → Result (Parts A) ImageFault
 loaded bytes = without_field (diagnosed bytes)
 
--- the image that is written of the model that the bytes give, or their first fault
+-- the image, in the version that is written, of the model that the bytes encode, or their first fault
 abbrev pub upgraded : (A : Type 0) → List ℕ → Result (List ℕ) ImageFault
 upgraded A bytes = and_then (loaded {A = A} bytes) (λ m. Ok (image m))

@@ -6,7 +6,7 @@ ghost use Rattle.acta_image.specs.Codes.{commit_code, extent_code, first_bits, o
 
 use acta_table::{AtCommit, Dependent, Extent, Kind, Policy, Scope, Starts};
 
-/// Which of the two depends: 0 the starter, 1 the one that is started.
+/// The code of the end of an edge that depends: 0 for the starter, 1 for the started.
 pub fn dependent_code(dependent: Dependent) -> u8
     ensures { result ≡ rank_of dependent }
 {
@@ -27,7 +27,7 @@ pub fn object_code(kind: Kind) -> u8
     }
 }
 
-/// The bits of its first value, in two's complement; 0 for a set.
+/// The bits of an object's first value, in two's complement; 0 for a set.
 pub fn first_bits(kind: Kind) -> u32
     ensures { result ≡ first_bits kind }
 {
@@ -45,7 +45,7 @@ pub fn starts_bits(starts: Starts) -> u8
     u8::from(starts.begin) + 2 * u8::from(starts.spawned) + 4 * u8::from(starts.split)
 }
 
-/// The code of whose operations count.
+/// The code of a scope.
 pub fn scope_code(scope: Scope) -> u8
     ensures { result ≡ scope_code scope }
 {
@@ -65,7 +65,7 @@ pub fn policy_code(policy: Policy) -> u8
     }
 }
 
-/// The bits of its kinds; 0 where it refuses.
+/// The bits of a policy's kinds; 0 if it refuses.
 pub fn policy_bits(policy: Policy) -> u16
     ensures { result ≡ policy_bits policy }
 {
@@ -75,7 +75,7 @@ pub fn policy_bits(policy: Policy) -> u16
     }
 }
 
-/// The code of what becomes of what is held at a commit.
+/// The code of what a commit does.
 pub fn commit_code(at_commit: AtCommit) -> u8
     ensures { result ≡ commit_code at_commit }
 {
@@ -85,7 +85,7 @@ pub fn commit_code(at_commit: AtCommit) -> u8
     }
 }
 
-/// The code of how much is handed over.
+/// The code of how much a delegation transfers.
 pub fn extent_code(extent: Extent) -> u8
     ensures { result ≡ extent_code extent }
 {

@@ -1,4 +1,4 @@
-//! Where an image is wrong: the fault, and the field that has it.
+//! Where an image is wrong: the fault and its field.
 
 ghost use Rattle.std.specs.Prelude.{◌≡◌};
 ghost use Rattle.acta_image.specs.declared.diagnostic.ReadError.TheVariants.{Memory};
@@ -37,11 +37,11 @@ pub enum Field {
     Scope,
     /// The code of a class's policy, in one byte.
     Policy,
-    /// The kinds by which a class depends, in two bytes.
+    /// The kinds of edges that a class's policy forms, in two bytes.
     PolicyKinds,
     /// What a commit does, in one byte.
     Commit,
-    /// How much is handed over, in one byte.
+    /// How much a delegation transfers, in one byte.
     Delegation,
     /// How many edges a spawn forms, in one byte.
     SpawnEdges,
@@ -55,25 +55,24 @@ pub enum Field {
     End,
 }
 
-/// The first fault of bytes that are no image, and the field that has it.
+/// The first fault of bytes that are not an image, and its field.
 #[derive(Clone, Copy, PartialEq, Eq, Debug)]
 pub struct ImageDiagnostic {
-    /// The fault, as `load` answers it.
+    /// The fault, as `load` returns it.
     pub fault: ImageFault,
-    /// The field that has the fault. Of `Truncated` the first field that is not there whole, and of `Trailing` and
-    /// `Model` the end.
+    /// The faulty field. For `Truncated` the first field that is incomplete, for `Trailing` and `Model` the end.
     pub field: Field,
-    /// The offset at which that field begins, from 0. Of `Truncated` at most the number of the bytes, and of `Model`
-    /// that number.
+    /// The offset of that field's first byte, from 0. For `Truncated` at most the number of bytes, for `Model` exactly that
+    /// number.
     pub offset: usize,
 }
 
-/// Why reading gave nothing.
+/// Why reading failed.
 #[derive(Debug, Drop)]
 pub(crate) enum ReadError {
-    /// There is no memory.
+    /// Memory ran out.
     Memory,
-    /// The bytes are no image.
+    /// The bytes are not an image.
     Fault(ImageDiagnostic),
 }
 

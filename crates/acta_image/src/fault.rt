@@ -1,4 +1,4 @@
-//! Why bytes are no image.
+//! Why bytes are not an image.
 
 ghost use Rattle.std.specs.Prelude.{◌≡◌};
 ghost use Rattle.acta_image.specs.Claims.{image_fault_number};
@@ -7,11 +7,10 @@ ghost use Rattle.acta_image.specs.declared.fault.LoadError.TheVariants.{Memory};
 use acta_table::ModelFault;
 use std::alloc::{AllocError, AllocFailed};
 
-/// The first fault of an image, from left to right (our list). An offset is that of the faulty field's first byte,
-/// from 0.
+/// The first fault of an image, from left to right. An offset is that of the faulty field's first byte, from 0.
 #[derive(Clone, Copy, PartialEq, Eq, Debug)]
 pub enum ImageFault {
-    /// One of the first four bytes is another than in `ACTA`.
+    /// One of the first four bytes differs from `ACTA`.
     Magic,
     /// The version is neither 1 nor 2.
     Version,
@@ -19,9 +18,9 @@ pub enum ImageFault {
     Truncated,
     /// The field at this offset has a value that is not allowed.
     BadField(usize),
-    /// Bytes are left behind the last field; the first has this offset.
+    /// Bytes are left after the last field; the first has this offset.
     Trailing(usize),
-    /// All fields are good, and what they say makes no model.
+    /// All fields are valid, but together they are not a valid model.
     Model(ModelFault),
 }
 
@@ -41,12 +40,12 @@ impl ImageFault {
     }
 }
 
-/// Why no model was loaded.
+/// Why a model was not loaded.
 #[derive(Debug, Drop)]
 pub enum LoadError {
-    /// There is no memory.
+    /// Memory ran out.
     Memory,
-    /// The bytes are no image.
+    /// The bytes are not an image.
     Fault(ImageFault),
 }
 

@@ -1,5 +1,5 @@
-//! The fields of fixed length: each is read from the front of what is left of an image of a known size, and gives its
-//! value with the bytes behind it, or its fault.
+//! The fields of fixed length. Each is read from the front of the remaining bytes of an image of known size, and returns its
+//! value with the bytes after it, or its fault.
 
 ghost use Rattle.std.specs.Prelude.{◌≡◌, ◌-◌, ◌≤◌, ◌<◌, ◌^◌, length, true, IfErr, IfOk};
 ghost use Rattle.acta_image.specs.declared.fault.ImageFault.TheVariants.{BadField};
@@ -12,7 +12,7 @@ use crate::diagnostic::{Field, ImageDiagnostic, ReadError};
 use crate::fault::ImageFault;
 use acta_table::{AtCommit, DepKinds, Extent, Kind, Kinds, Policy, Scope, Starts, is_named_well};
 
-/// This fault, at this field, with which these bytes begin, in an image of this size.
+/// The fault at the field with which these bytes begin, in an image of this size.
 pub fn fault_at(fault: ImageFault, field: Field, size: usize, bytes: &[u8]) -> ReadError
     ensures { result ≡ error.Fault (fault_at fault field size bytes.now) }
 {
@@ -24,7 +24,7 @@ pub fn fault_at(fault: ImageFault, field: Field, size: usize, bytes: &[u8]) -> R
     })
 }
 
-/// The first bytes, of this field, and those behind them.
+/// Splits off the first bytes, those of this field.
 pub fn part(
     which: Field,
     size: usize,
@@ -40,7 +40,7 @@ pub fn part(
     Ok(bytes.split_at(len))
 }
 
-/// That the field that these bytes begin with has a value that is not allowed, in an image of this size.
+/// `BadField` at the field with which these bytes begin, in an image of this size.
 pub fn bad(which: Field, size: usize, bytes: &[u8]) -> ReadError
     ensures { result ≡ error.Fault (fault_at (BadField (offset_of size bytes.now)) which size bytes.now) }
 {
@@ -48,7 +48,7 @@ pub fn bad(which: Field, size: usize, bytes: &[u8]) -> ReadError
     fault_at(ImageFault::BadField(offset), which, size, bytes)
 }
 
-/// A byte from least to most.
+/// A byte in the range from `least` to `most`.
 pub fn byte(
     which: Field,
     size: usize,
@@ -67,7 +67,7 @@ pub fn byte(
     }
 }
 
-/// A number of two bytes that is at most this.
+/// A number of two bytes, at most `most`.
 pub fn number(which: Field, size: usize, most: u16, bytes: &[u8]) -> Result<(u16, &[u8]), ReadError>
     ensures field { Gives (λ x. (x.0, x.1.now)) result (field which size 2 (number_to most) bytes.now) }
     ensures sure { IfErr result (λ e. is_fault e ≡ true) }
@@ -127,7 +127,7 @@ pub fn starts(size: usize, bytes: &[u8]) -> Result<(Starts, &[u8]), ReadError>
     Ok((starts, rest))
 }
 
-/// The set of kinds of event that has these bits.
+/// The set of kinds of event with these bits.
 pub fn kinds_of(bits: u16) -> Kinds
     requires { bits < 2 ^ 9 }
     ensures { result ≡ bits }
@@ -138,7 +138,7 @@ pub fn kinds_of(bits: u16) -> Kinds
     }
 }
 
-/// Whose operations count.
+/// A scope.
 pub fn scope(size: usize, bytes: &[u8]) -> Result<(Scope, &[u8]), ReadError>
     ensures field { Gives (λ x. (x.0, x.1.now)) result (field at.Scope size 1 scope_in bytes.now) }
     ensures sure { IfErr result (λ e. is_fault e ≡ true) }
@@ -152,7 +152,7 @@ pub fn scope(size: usize, bytes: &[u8]) -> Result<(Scope, &[u8]), ReadError>
     Ok((scope, rest))
 }
 
-/// The bits of the kinds of a policy that has this code: none where it refuses.
+/// The bits of the kinds of a policy with this code: 0 if it refuses.
 pub fn policy_bits(size: usize, code: u8, bytes: &[u8]) -> Result<(u16, &[u8]), ReadError>
     ensures field { Gives (λ x. (policy_by code x.0, x.1.now)) result (field at.PolicyKinds size 2 (policy_in code) bytes.now) }
     ensures small { IfOk result (λ x. x.0 ≤ 4095) }
@@ -163,7 +163,7 @@ pub fn policy_bits(size: usize, code: u8, bytes: &[u8]) -> Result<(u16, &[u8]), 
     number(Field::PolicyKinds, size, most, bytes)
 }
 
-/// The policy that has this code and these bits.
+/// The policy with this code and these bits.
 pub fn policy_of(code: u8, bits: u16) -> Policy
     requires { bits ≤ 4095 }
     ensures { result ≡ policy_by code bits }
@@ -177,7 +177,7 @@ pub fn policy_of(code: u8, bits: u16) -> Policy
     }
 }
 
-/// What becomes of what is held at a commit.
+/// What a commit does.
 pub fn at_commit(size: usize, bytes: &[u8]) -> Result<(AtCommit, &[u8]), ReadError>
     ensures field { Gives (λ x. (x.0, x.1.now)) result (field at.Commit size 1 commit_in bytes.now) }
     ensures sure { IfErr result (λ e. is_fault e ≡ true) }
@@ -191,7 +191,7 @@ pub fn at_commit(size: usize, bytes: &[u8]) -> Result<(AtCommit, &[u8]), ReadErr
     Ok((at_commit, rest))
 }
 
-/// How much is handed over.
+/// How much a delegation transfers.
 pub fn extent(size: usize, bytes: &[u8]) -> Result<(Extent, &[u8]), ReadError>
     ensures field { Gives (λ x. (x.0, x.1.now)) result (field at.Delegation size 1 extent_in bytes.now) }
     ensures sure { IfErr result (λ e. is_fault e ≡ true) }

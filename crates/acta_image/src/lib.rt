@@ -1,7 +1,7 @@
-//! The image of a model: its spelling as bytes, one in each version of the format. `write_image` gives that of the
-//! version that is written; `load` reads one of any version back field by field, or answers the first fault, with the
-//! offset of the field where it is; `diagnose` answers that fault with the field that has it; `upgrade` makes of one of
-//! any version the one that is written.
+//! The binary image of a model. The encoding is canonical: within a version of the format, equal models have identical
+//! images. `write_image` writes the current version; `load` reads any version field by field and returns the model, or the
+//! first fault with the offset of its field; `diagnose` returns that fault with its field; `upgrade` converts an image of
+//! any version to the current one.
 //!
 //! A call that allocates returns `Err` if memory runs out.
 #![tactic(auto)]

@@ -44,7 +44,7 @@ fn object<A: Allocator>(
     Ok((Object { name, kind }, rest))
 }
 
-// What an image begins with, behind the magic: the version, how many classes there are, and how many objects.
+// The head of an image, after the magic: the version, and the numbers of classes and of objects.
 #[derive(Clone, Copy)]
 pub(crate) struct Head {
     pub(crate) version: ImageVersion,
@@ -88,7 +88,7 @@ fn class<A: Allocator + Copy>(
     Ok((class, rest))
 }
 
-// So many objects.
+// This many objects.
 fn objects<A: Allocator + Copy>(
     alloc: A,
     size: usize,
@@ -107,7 +107,7 @@ fn objects<A: Allocator + Copy>(
     Ok((Items::of(objects), rest))
 }
 
-// So many classes, of an image of this version.
+// This many classes, of an image of this version.
 fn classes<A: Allocator + Copy>(
     alloc: A,
     version: ImageVersion,
@@ -127,7 +127,7 @@ fn classes<A: Allocator + Copy>(
     Ok((Items::of(classes), rest))
 }
 
-// The magic: a byte that is there and differs comes before one that is not there.
+// The magic. A wrong byte is reported even if later ones are missing.
 #[tactic(auto, unfolding(crate::specs::Reading::read_magic))]
 fn magic(bytes: &[u8]) -> Result<(&[u8], &[u8]), ReadError>
     ensures field { Gives (λ x. (x.0.now, x.1.now)) result (read_magic bytes.now) }
@@ -156,7 +156,7 @@ fn version(size: usize, bytes: &[u8]) -> Result<(ImageVersion, &[u8]), ReadError
     }
 }
 
-// The magic, and what stands behind it.
+// The magic and the head.
 #[tactic(auto, unfolding(crate::specs::Reading::read_head))]
 fn header(size: usize, bytes: &[u8]) -> Result<(Head, &[u8]), ReadError>
     ensures field { Gives (λ x. (x.0, x.1.now)) result (read_head size bytes.now) }
@@ -187,7 +187,7 @@ fn parts<A: Allocator + Copy>(alloc: A, bytes: &[u8]) -> Result<(Parts<A>, &[u8]
     Ok((Parts { objects, classes }, rest))
 }
 
-// The model of the parts that were read from an image of this size, behind which these bytes are left.
+// The model of the parts that were read from an image of this size; `rest` are the bytes left.
 fn finish<A: Allocator>(size: usize, parts: Parts<A>, rest: &[u8]) -> Result<Model<A>, ReadError>
     ensures { Gives (λ m. m) result (finished size (parts, rest.now)) }
 {
@@ -201,7 +201,7 @@ fn finish<A: Allocator>(size: usize, parts: Parts<A>, rest: &[u8]) -> Result<Mod
     }
 }
 
-// The model that the bytes are read as.
+// The model that the bytes encode.
 #[tactic(auto, unfolding(crate::specs::Reading::diagnosed))]
 fn read<A: Allocator + Copy>(alloc: A, bytes: &[u8]) -> Result<Model<A>, ReadError>
     ensures model { Gives (λ m. m) result (diagnosed bytes.now) }
@@ -211,17 +211,16 @@ fn read<A: Allocator + Copy>(alloc: A, bytes: &[u8]) -> Result<Model<A>, ReadErr
     finish(bytes.len(), parts, rest)
 }
 
-// Bytes that are read as a model are its image in the version that they name, and the image of a model in a version is
-// read as the model.
+// Bytes that load as a model are its image in the version that they name, and the image of a model in a version loads as
+// that model.
 fn read_equivalent<A: Allocator>(alloc: &A, bytes: &[u8])
     ensures had { (m : Parts A) → loaded bytes.now ≡ Ok m → HasImageIn (version_of bytes.now) m }
     ensures spelled { (m : Parts A) → loaded bytes.now ≡ Ok m → image_in (version_of bytes.now) m ≡ bytes.now }
     ensures only { (version : ImageVersion) (m : Parts A) → AreOfModel m → HasImageIn version m → image_in version m ≡ bytes.now → loaded bytes.now ≡ Ok m }
 {}
 
-/// The model whose image, in the version that they name, the bytes are (the format is ours). `Fault` with the first
-/// fault of bytes that are no image; `Memory` where there is none, which is found out only behind the magic, the version
-/// and the counts.
+/// Reads the image of a model, of any version. Returns `Fault` with the first fault of bytes that are not an image. Returns
+/// `Memory` if memory runs out, but only once the magic, the version and the counts are found valid.
 #[tactic(auto, unfolding(crate::specs::Reading::loaded))]
 pub fn load<A: Allocator + Copy>(alloc: A, bytes: &[u8]) -> Result<Model<A>, LoadError>
     ensures ok { IfOk result (λ model. loaded bytes.now ≡ Ok model) }
@@ -239,9 +238,8 @@ pub fn load<A: Allocator + Copy>(alloc: A, bytes: &[u8]) -> Result<Model<A>, Loa
     }
 }
 
-/// Where the bytes are wrong: the fault that `load` answers, the field that has it, and the offset at which that field
-/// begins; `None` where the bytes are the image of a model, which `load` gives. `Err` if memory runs out, which is
-/// found out only behind the magic, the version and the counts.
+/// The diagnostic of bytes that `load` rejects: the fault, its field and the field's offset. `None` if the bytes are an
+/// image. Returns `Err` if memory runs out, but only once the magic, the version and the counts are found valid.
 #[tactic(auto, unfolding(crate::specs::Reading::loaded))]
 pub fn diagnose<A: Allocator + Copy>(
     alloc: A,

@@ -1,4 +1,4 @@
-//! The start edges of a class: how many there are, and a row of two bytes for each, in their order.
+//! The start edges of a class: their number, and a row of two bytes for each, in canonical order.
 
 ghost use Rattle.std.specs.Prelude.{◌≡◌, slice_get, true, IfErr};
 ghost use Rattle.acta_table.specs.Dependencies.{all_kinds};
@@ -11,14 +11,14 @@ use crate::fields::{bad, byte, part};
 use acta_table::{Dep, Dependent, StartEdge, StartEdges};
 use std::alloc::Allocator;
 
-// The kind that has this code.
+// The kind with this code.
 fn kind_of(code: u8) -> Option<Dep>
     ensures { result ≡ slice_get all_kinds code }
 {
     Dep::ALL.get(usize::from(code)).copied()
 }
 
-// Who depends, by its code.
+// The end that depends, by its code.
 fn dependent_of(code: u8) -> Option<Dependent>
     ensures { result ≡ dependent_in code }
 {
@@ -29,7 +29,7 @@ fn dependent_of(code: u8) -> Option<Dependent>
     }
 }
 
-// The start edge of these two codes.
+// The start edge with these two codes.
 fn edge_of(kind: u8, dependent: u8) -> Option<StartEdge>
     ensures { result ≡ edge_in kind dependent }
 {
@@ -38,14 +38,14 @@ fn edge_of(kind: u8, dependent: u8) -> Option<StartEdge>
     Some(StartEdge { kind, dependent })
 }
 
-// The place of the start edge in their order.
+// The rank of the start edge in the canonical order.
 fn rank_of(edge: &StartEdge) -> u8
     ensures { result ≡ rank edge.now }
 {
     2 * edge.kind.code() + dependent_code(edge.dependent)
 }
 
-// A row whose start edge has this rank at least.
+// A row whose start edge has at least this rank.
 fn row(which: Field, size: usize, least: u8, bytes: &[u8]) -> Result<(StartEdge, &[u8]), ReadError>
     ensures field { Gives (λ x. (x.0, x.1.now)) result (field which size 2 (row_in least) bytes.now) }
     ensures sure { IfErr result (λ e. is_fault e ≡ true) }
@@ -61,7 +61,7 @@ fn row(which: Field, size: usize, least: u8, bytes: &[u8]) -> Result<(StartEdge,
     }
 }
 
-// So many rows, in order.
+// This many rows, in ascending order of rank.
 fn rows<A: Allocator>(
     alloc: A,
     which: Field,
@@ -83,7 +83,7 @@ fn rows<A: Allocator>(
     Ok((edges, rest))
 }
 
-/// The start edges of one list of a class, whose fields are these: how many there are, and each of them.
+/// One list of start edges of a class, read from these fields: the number of edges, and each edge.
 #[tactic(auto, unfolding(crate::specs::Reading::read_edges))]
 pub fn edges<A: Allocator>(
     alloc: A,

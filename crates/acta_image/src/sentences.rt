@@ -1,4 +1,4 @@
-//! The faults of images in words: what each is called, and what it says in a sentence.
+//! The name of each fault of an image, and a sentence that explains it.
 
 use crate::fault::ImageFault;
 use std::error::Error;
@@ -17,7 +17,7 @@ impl ImageFault {
         }
     }
 
-    /// When bytes have the fault, in a sentence.
+    /// A sentence that says when bytes have the fault.
     pub fn sentence(self) -> &'static str {
         match self {
             ImageFault::Magic => "One of the first four bytes differs from `ACTA`.",

@@ -1,4 +1,4 @@
-//! From an image of any version to that of the version that is written.
+//! Converts an image of any version to the version that is written.
 
 ghost use Rattle.std.specs.Prelude.{◌≡◌, Err, Ok, IfErr, IfOk, length};
 ghost use Rattle.acta_image.specs.Claims.{IsWhy};
@@ -11,9 +11,9 @@ use crate::loading::load;
 use crate::writing::write_image;
 use std::alloc::Allocator;
 
-/// The image, in the version that is written, of the model whose image in any version the bytes are (the format is
-/// ours): what `write_image` gives for what `load` gives. `Fault` with the first fault of bytes that are no image;
-/// `Memory` where there is none, which is found out only behind the magic, the version and the counts.
+/// Converts an image of any version to the version that `write_image` writes, of the same model. Returns `Fault` with the
+/// first fault of bytes that are not an image. Returns `Memory` if memory runs out, but only once the magic, the version and
+/// the counts are found valid.
 pub fn upgrade<A: Allocator + Copy>(alloc: A, bytes: &[u8]) -> Result<Vec<u8, A>, LoadError>
     ensures ok { IfOk result (λ image. upgraded A bytes.now ≡ Ok image.items) }
     ensures fault { IfErr result (IsWhy (upgraded A bytes.now)) }

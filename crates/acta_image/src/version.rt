@@ -3,23 +3,23 @@
 ghost use Rattle.std.specs.Prelude.{◌≡◌};
 ghost use Rattle.acta_image.specs.Codes.{most_may, version_number};
 
-// All kinds of event, as the number of a set.
+// All kinds of event, as a set of bits.
 const ALL_KINDS: u16 = 511;
 
-// The same without a permit, which has the highest bit.
+// All but permit, which has the highest bit.
 const ALL_BUT_PERMIT: u16 = 255;
 
-/// A version of the format. They differ in what a class may do, and in nothing else.
+/// A version of the format. The versions differ only in the kinds of event that a class may be allowed.
 #[derive(Clone, Copy, PartialEq, Eq, Debug)]
 pub enum ImageVersion {
-    /// The first: no class of its models may permit.
+    /// The first version: it has no images of models with a class that may permit.
     One,
-    /// The one that is written: each model has an image.
+    /// The version that is written: every model has an image.
     Two,
 }
 
 impl ImageVersion {
-    /// The number of the version, which stands behind the magic.
+    /// The number of the version, in the byte after the magic.
     pub fn number(self) -> u8
         ensures { result ≡ version_number self }
     {
@@ -29,7 +29,7 @@ impl ImageVersion {
         }
     }
 
-    /// The highest number of what a class may do: that of all kinds of event which the version has.
+    /// The highest value of a class's set of allowed events: all kinds of event of the version.
     pub(crate) fn most_may(self) -> u16
         ensures { result ≡ most_may self }
     {

@@ -15,7 +15,7 @@ use crate::version::ImageVersion;
 use acta_table::{Class, LONGEST_NAME, Model, Object, StartEdge, StartEdges};
 use std::alloc::{AllocError, Allocator};
 
-// Appends a name behind its length.
+// Appends the length of a name, and the name.
 fn push_name<A: Allocator>(image: &mut Vec<u8, A>, name: &[u8]) -> Result<(), AllocError>
     requires { length name.now ≤ LONGEST_NAME }
     ensures { OnOk result (image.new.items ≡ image.old.items ++ (length name.now ∷ name.now)) }
@@ -57,7 +57,7 @@ fn push_rows<A: Allocator>(image: &mut Vec<u8, A>, edges: &[StartEdge]) -> Resul
     Ok(())
 }
 
-// Appends start edges, behind how many there are.
+// Appends the number of start edges, and their rows.
 fn push_edges<A: Allocator>(image: &mut Vec<u8, A>, edges: &StartEdges<A>) -> Result<(), AllocError>
     ensures { OnOk result (image.new.items ≡ image.old.items ++ rows_bytes edges.now) }
 {
@@ -66,7 +66,7 @@ fn push_edges<A: Allocator>(image: &mut Vec<u8, A>, edges: &StartEdges<A>) -> Re
     push_rows(image, edges)
 }
 
-// Appends what a class says in fields of fixed length.
+// Appends the fields of fixed length of a class.
 fn push_choices<A: Allocator>(image: &mut Vec<u8, A>, class: &Class<A>) -> Result<(), AllocError>
     ensures { OnOk result (image.new.items ≡ image.old.items ++ choices class.now) }
 {
@@ -109,7 +109,7 @@ fn push_classes<A: Allocator>(
     Ok(())
 }
 
-// Appends the magic, the version that is written, and how many classes and how many objects there are.
+// Appends the magic, the version that is written, and the numbers of classes and of objects.
 fn push_head<A: Allocator>(
     image: &mut Vec<u8, A>,
     classes: u8,
@@ -122,7 +122,7 @@ fn push_head<A: Allocator>(
     image.extend_from_slice(&[b'A', b'C', b'T', b'A', version, classes, high, low])
 }
 
-// Appends the image of a model with names that are short and few.
+// Appends the image of a model whose names and parts fit the length fields.
 #[tactic(auto, unfolding(crate::specs::Spelling::image_in))]
 fn push_model<A: Allocator>(bytes: &mut Vec<u8, A>, model: &Model<A>) -> Result<(), AllocError>
     requires objects { All (λ object. length object.name ≤ LONGEST_NAME) model.now.objects }
@@ -136,7 +136,7 @@ fn push_model<A: Allocator>(bytes: &mut Vec<u8, A>, model: &Model<A>) -> Result<
     push_classes(bytes, classes)
 }
 
-// The image of a model is loaded as the model, and its names are short and few.
+// The image of a model loads as that model, and its names and parts fit the length fields.
 fn lemma_invariant<A: Allocator>(model: &Model<A>)
     ensures again { loaded (image model.now) ≡ Ok model.now }
     ensures objects { All (λ object. length object.name ≤ LONGEST_NAME) model.now.objects }
@@ -146,8 +146,7 @@ fn lemma_invariant<A: Allocator>(model: &Model<A>)
     model.lemma_invariant();
 }
 
-/// The image of the model in version 2 (the format is ours): the one list of bytes of that version which `load` reads
-/// as this model.
+/// The image of the model in version 2: the only bytes of that version that `load` reads as this model.
 pub fn write_image<A: Allocator + Copy>(
     alloc: A,
     model: &Model<A>,

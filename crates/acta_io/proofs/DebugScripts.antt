@@ -1,4 +1,4 @@
--- Lines up to the first that is faulty, where some line that says nothing is no fault but ends them.
+-- Lines up to the first faulty one, where the line `--` is no fault but ends them.
 use Rattle.std.proofs.Common.{◌≡◌, ℕ, zero, suc, ◌+◌, ◌-◌, ◌<◌, ◌≤◌, List, [], ◌∷◌, length, take, drop, cond, not, sym, ap, ◌∙◌, refl, arith}
 use Rattle.std.specs.Prelude.{Bool, true, false, ◌==◌, codes, Option, Some, None, Result, Ok, Err}
 use Rattle.std.specs.List.{position_or_len}
@@ -14,7 +14,7 @@ use Rattle.acta_script.specs.declared.commands.DebugCommand.{DebugCommand}
 use Rattle.acta_script.specs.declared.fault.LineFault.{LineFault}
 use Rattle.acta_script.specs.declared.fault.LineFault.TheVariants.{Word}
 use Rattle.acta_io.specs.declared.input.BadLine.{BadLine}
-use Rattle.acta_io.specs.Input.{Said, parsed_by, parsed_from, parsed_in, with_line}
+use Rattle.acta_io.specs.Input.{Parsed, parsed_by, parsed_from, parsed_in, with_line}
 use Rattle.acta_io.specs.Sections.{ends_events, is_sign, script_commands, script_events}
 use Rattle.acta_io.specs.inside.Sections.{commands_from}
 
@@ -22,8 +22,8 @@ use Rattle.acta_io.specs.inside.Sections.{commands_from}
 abbrev number_or : ℕ → Option BadLine → ℕ
 number_or n stop = option_map_or (λ b. b.line) stop n
 
--- a line of the number n, by what it says, before what others say
-module _ {X : Type 0} (n : ℕ) (r : Said X) where
+-- a line with the number n, before the results of the lines after it
+module _ {X : Type 0} (n : ℕ) (r : Parsed X) where
   -- who is stopped is stopped here or further on
   not_before : (s : Option (Result X LineFault)) (b : BadLine) → (with_line n s r).stop ≡ Some b → (r.stop ≡ Some b → n + 1 ≤ b.line) → n ≤ b.line
   not_before None b h more = let later = more h in omega (arith, later)
@@ -49,7 +49,7 @@ module _ {X : Type 0} (n : ℕ) (r : Said X) where
   unended (Some (Err fault)) b h lt = let same : n ≡ b.line = ap (number_or 0) h in absurd (omega (arith, same, lt))
 
   -- where this line stops them, the others make no difference
-  stopped : (s : Option (Result X LineFault)) (others : Said X) (b : BadLine) → (with_line n s r).stop ≡ Some b → b.line ≡ n → (r.stop ≡ Some b → n + 1 ≤ b.line) → with_line n s others ≡ with_line n s r
+  stopped : (s : Option (Result X LineFault)) (others : Parsed X) (b : BadLine) → (with_line n s r).stop ≡ Some b → b.line ≡ n → (r.stop ≡ Some b → n + 1 ≤ b.line) → with_line n s others ≡ with_line n s r
   stopped None others b h at more = let further = more h in absurd (omega (arith, further, at))
   stopped (Some (Ok x)) others b h at more = let further = more h in absurd (omega (arith, further, at))
   stopped (Some (Err fault)) others b h at more = refl
@@ -67,11 +67,11 @@ module _ {X : Type 0} (read : List ℕ → Result X LineFault) (ends : List ℕ 
   numbered n (x ∷ xs) b h = not_before n (parsed_from read (n + 1) xs) (parsed_by read x) b h (numbered (n + 1) xs b)
 
   -- a line that doesn't stop them, or not here, doesn't pass
-  by_test : (n : ℕ) (x : List ℕ) (r : Said X) (o : Option BadLine) → (with_line n (parsed_by read x) r).stop ≡ o → (Some (record { line = n; fault = Word }) ≡ o → ⊥) → (p : Bool) → ends x ≡ p → ends x ≡ false
+  by_test : (n : ℕ) (x : List ℕ) (r : Parsed X) (o : Option BadLine) → (with_line n (parsed_by read x) r).stop ≡ o → (Some (record { line = n; fault = Word }) ≡ o → ⊥) → (p : Bool) → ends x ≡ p → ends x ≡ false
   by_test n x r o h other false is = is
   by_test n x r o h other true is = absurd (other (sym (ap (λ (s : Option (Result X LineFault)). (with_line n s r).stop) (strange x is)) ∙ h))
 
-  fails : (n : ℕ) (x : List ℕ) (r : Said X) (b : BadLine) → (with_line n (parsed_by read x) r).stop ≡ Some b → n < b.line → ends x ≡ false
+  fails : (n : ℕ) (x : List ℕ) (r : Parsed X) (b : BadLine) → (with_line n (parsed_by read x) r).stop ≡ Some b → n < b.line → ends x ≡ false
   fails n x r b h lt = by_test n x r (Some b) h (λ e. let same : n ≡ b.line = ap (number_or 0) e in omega (arith, same, lt)) (ends x) refl
 
   one_more : (k : ℕ) → 1 + k ≡ suc k
@@ -147,7 +147,7 @@ module _ {A : Type 0} (m : Parts A) (input : List ℕ) (events : List (Event A))
   module _ (parsed : parsed_in (event_of m) input ≡ record { parsed = events; stop = None }) where
     none : end ≡ length lines
     unfolding parsed_in
-    none = none_ends (event_of m) ends_events (strange m) 1 lines (ap (λ (s : Said (Event A)). s.stop) parsed)
+    none = none_ends (event_of m) ends_events (strange m) 1 lines (ap (λ (s : Parsed (Event A)). s.stop) parsed)
 
     pub all_events : record { parsed = events; stop = None } ≡ script_events m input
     unfolding parsed_in script_events
@@ -165,11 +165,11 @@ module _ {A : Type 0} (m : Parts A) (input : List ℕ) (events : List (Event A))
   module _ (b : BadLine) (parsed : parsed_in (event_of m) input ≡ record { parsed = events; stop = Some b }) where
     stops : (parsed_from (event_of m) 1 lines).stop ≡ Some b
     unfolding parsed_in
-    stops = ap (λ (s : Said (Event A)). s.stop) parsed
+    stops = ap (λ (s : Parsed (Event A)). s.stop) parsed
 
     events_are : (parsed_from (event_of m) 1 lines).parsed ≡ events
     unfolding parsed_in
-    events_are = ap (λ (s : Said (Event A)). s.parsed) parsed
+    events_are = ap (λ (s : Parsed (Event A)). s.parsed) parsed
 
     pub has_number : 1 ≤ b.line
     has_number = numbered (event_of m) ends_events (strange m) 1 lines b stops
@@ -209,7 +209,7 @@ module _ {A : Type 0} (m : Parts A) (input : List ℕ) (events : List (Event A))
         by_sign false failing found = refused (ap (begins_with ends_events) is ∙ failing)
 
     -- by them commands were found
-    pub found_commands : (commands : Said DebugCommand) (left : List (List ℕ)) → drop (b.line - 1) lines ≡ left → commands_from m b.line left ≡ Some commands
+    pub found_commands : (commands : Parsed DebugCommand) (left : List (List ℕ)) → drop (b.line - 1) lines ≡ left → commands_from m b.line left ≡ Some commands
         → (record { parsed = events; stop = None } ≡ script_events m input) × (commands ≡ script_commands m input)
     found_commands commands [] is found = cc
     found_commands commands (line ∷ rest) is found = by_sign (ends_events line) refl found

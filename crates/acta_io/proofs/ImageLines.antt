@@ -5,7 +5,7 @@ use Rattle.acta_image.specs.declared.fault.ImageFault.{ImageFault}
 use Rattle.acta_image.specs.Claims.{image_fault_number}
 use Rattle.acta_io.specs.Reports.{fault_number_words, fault_words, image_line}
 
--- words behind others in a line, each behind a space
+-- words after others in a line, each after a space
 pub behind : (word : List ℕ) (words : List (List ℕ)) → line_of (word ∷ words) ≡ word ++ flat_map (λ w. 32 ∷ w) words
 behind word [] = sym (append-nil word)
 behind word (next ∷ words) = ap (λ t. word ++ 32 ∷ t) (behind next words)

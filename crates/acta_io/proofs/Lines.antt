@@ -6,10 +6,10 @@ use Rattle.acta_table.specs.Numbered.{numbers_from}
 use Rattle.acta_script.specs.declared.fault.LineFault.{LineFault}
 use Rattle.acta_words.specs.Text.{words_of}
 use Rattle.acta_io.specs.declared.input.BadLine.{BadLine}
-use Rattle.acta_io.specs.Input.{Said, parsed_by, parsed_from, with_line}
+use Rattle.acta_io.specs.Input.{Parsed, parsed_by, parsed_from, with_line}
 
--- these, before what else is said
-abbrev pub put_before : {X : Type 0} → List X → Said X → Said X
+-- these, before other results
+abbrev pub put_before : {X : Type 0} → List X → Parsed X → Parsed X
 put_before xs s = record s { parsed = xs ++ s.parsed }
 
 -- nothing has been read yet
@@ -17,11 +17,11 @@ pub begins : {X : Type 0} (read : List ℕ → Result X LineFault) (n : ℕ) (xs
 begins read n xs left none = λ i. put_before (none i) (parsed_from read n left)
 
 -- no line is left
-pub ends : {X : Type 0} (read : List ℕ → Result X LineFault) (n : ℕ) (xs : List X) (left : List (List ℕ)) (all : Said X) → left ≡ [] → put_before xs (parsed_from read n left) ≡ all → all ≡ record { parsed = xs; stop = None }
+pub ends : {X : Type 0} (read : List ℕ → Result X LineFault) (n : ℕ) (xs : List X) (left : List (List ℕ)) (all : Parsed X) → left ≡ [] → put_before xs (parsed_from read n left) ≡ all → all ≡ record { parsed = xs; stop = None }
 ends read n xs left all none h = sym h ∙ ap (λ l. put_before xs (parsed_from read n l)) none ∙ (λ i. record { parsed = append-nil xs i; stop = None })
 
--- the next line, and those behind it
-pub turn : {X : Type 0} (read : List ℕ → Result X LineFault) (n : ℕ) (xs : List X) (line : List ℕ) (left rest : List (List ℕ)) (says : Option (Result X LineFault)) (all : Said X)
+-- the next line, and those after it
+pub turn : {X : Type 0} (read : List ℕ → Result X LineFault) (n : ℕ) (xs : List X) (line : List ℕ) (left rest : List (List ℕ)) (says : Option (Result X LineFault)) (all : Parsed X)
     → left ≡ line ∷ rest → parsed_by read line ≡ says → put_before xs (parsed_from read n left) ≡ all
     → put_before xs (with_line n says (parsed_from read (n + 1) rest)) ≡ all
 turn read n xs line left rest says all parts is h =
@@ -31,7 +31,7 @@ turn read n xs line left rest says all parts is h =
 abbrev pub has_word : List ℕ → Bool
 has_word line = not (length (words_of line) == 0)
 
-next-number : {X : Type 0} (is_blank : Bool) (n k : ℕ) (reading : Result X LineFault) (numbers : List ℕ) (rest : Said X)
+next-number : {X : Type 0} (is_blank : Bool) (n k : ℕ) (reading : Result X LineFault) (numbers : List ℕ) (rest : Parsed X)
     → (rest.stop ≡ None → length numbers ≡ length rest.parsed) → (with_line n (if is_blank then None else Some reading) rest).stop ≡ None
     → length (if not is_blank then k ∷ numbers else numbers) ≡ length (with_line n (if is_blank then None else Some reading) rest).parsed
 next-number true n k reading numbers rest as_many whole = as_many whole
@@ -55,5 +55,5 @@ pub numbered : {V E X : Type 0} (read : List ℕ → Result X LineFault) (lines 
     → IfOk r (λ v. IfNone (stop v) (length (numbers_from has_word 1 lines) ≡ length (parsed v)))
 numbered read lines parsed stop (Ok v) is =
     if-none (stop v) (length (numbers_from has_word 1 lines) ≡ length (parsed v))
-    (λ whole. as-many read 1 1 lines (ap (λ (s : Said _). s.stop) is ∙ whole) ∙ ap (λ (s : Said _). length s.parsed) is)
+    (λ whole. as-many read 1 1 lines (ap (λ (s : Parsed _). s.stop) is ∙ whole) ∙ ap (λ (s : Parsed _). length s.parsed) is)
 numbered read lines parsed stop (Err e) is = is

@@ -1,4 +1,4 @@
--- The model that bytes mean.
+-- The model that bytes encode.
 use Rattle.std.specs.Prelude.{ℕ, Bool, List, take, Result, Ok, Err, if◌then◌else◌}
 use Rattle.std.specs.Str.{bytes_eq}
 use Rattle.acta_table.specs.declared.model.Parts.{Parts}
@@ -10,7 +10,7 @@ use Rattle.acta_lang.specs.Meaning.{meaning}
 use Rattle.acta_io.specs.declared.models.NoModel.{NoModel}
 use Rattle.acta_io.specs.declared.models.NoModel.TheVariants.{Text, Image}
 
--- what a text means, and what an image does
+-- the result of reading a text, and of reading an image
 abbrev pub of_text : {A : Type 0} → Result (Parts A) AsmFault → Result (Parts A) NoModel
 of_text (Ok m) = Ok m
 of_text (Err fault) = Err (Text fault)
@@ -19,7 +19,7 @@ abbrev pub of_image : {A : Type 0} → Result (Parts A) ImageFault → Result (P
 of_image (Ok m) = Ok m
 of_image (Err fault) = Err (Image fault)
 
--- bytes that begin with `ACTA` are taken as an image, and others as a text
+-- bytes that begin with `ACTA` are read as an image, others as a text
 abbrev pub is_image : List ℕ → Bool
 is_image bytes = bytes_eq (take 4 bytes) magic
 

@@ -1,4 +1,4 @@
--- What is written for an input or a model that is refused.
+-- The output for an input or a model that is refused.
 use Rattle.std.specs.Prelude.{ℕ, Bool, true, List, [], ◌∷◌, ◌++◌, codes, decimal}
 use Rattle.acta_table.specs.Numbers.{model_fault_number}
 use Rattle.acta_words.specs.Text.{line_of, text_of}
@@ -36,20 +36,20 @@ fault_words (Model fault) = codes "model" ∷ decimal (model_fault_number fault)
 abbrev pub image_line : ImageFault → List ℕ
 image_line f = line_of (fault_number_words (image_fault_number f) ++ fault_words f)
 
--- the line for bytes that mean no model
+-- the line for bytes that are not a model
 abbrev pub no_model_line : NoModel → List ℕ
 no_model_line (Text fault) = model_line fault
 no_model_line (Image fault) = image_line fault
 
--- what is written, and whether the input was refused
+-- the output, and whether the input was refused
 pub record Output : Type 0 where
   pub is_refused : Bool
   pub text : List ℕ
 
--- refused, with this line alone
+-- a refusal with this line alone
 abbrev pub refused_by : List ℕ → Output
 refused_by line = record { is_refused = true; text = text_of (line ∷ []) }
 
--- the output for bytes that mean no model
+-- the output for bytes that are not a model
 abbrev pub refused_model : NoModel → Output
 refused_model fault = record { is_refused = true; text = text_of (no_model_line fault ∷ []) }

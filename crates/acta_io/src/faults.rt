@@ -1,4 +1,4 @@
-//! The lines that say what is wrong with an input or a model.
+//! The lines that report a faulty input or model.
 
 ghost use Rattle.std.specs.Prelude.{◌≡◌, ◌++◌, ◌∷◌, [], decimal, flat_map, OnOk};
 ghost use Rattle.acta_image.specs.Claims.{image_fault_number};
@@ -80,7 +80,7 @@ fn push_image_fault<A: Allocator>(
     Ok(())
 }
 
-/// Adds the line about bytes that mean no model.
+/// Adds the line about bytes that are not a model.
 pub fn push_no_model<A: Allocator>(text: &mut Vec<u8, A>, fault: NoModel) -> Result<(), AllocError>
     ensures { OnOk result (text.new.items ≡ text.old.items ++ text_of (no_model_line fault ∷ [])) }
 {

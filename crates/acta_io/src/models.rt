@@ -1,4 +1,4 @@
-//! The model that bytes mean: a text or an image.
+//! Reads a model from bytes: a text or an image.
 
 ghost use Rattle.std.specs.Prelude.{◌≡◌, Ok, IfOk, IfErr};
 ghost use Rattle.acta_image.specs.Reading.{loaded};
@@ -11,25 +11,25 @@ use acta_lang::{AsmError, AsmFault, assemble};
 use acta_table::Model;
 use std::alloc::Allocator;
 
-/// Why bytes mean no model.
+/// Why bytes are not a model.
 #[derive(Clone, Copy, Debug, PartialEq, Eq)]
 pub enum NoModel {
     /// A line of the text is faulty.
     Text(AsmFault),
-    /// The bytes are no image.
+    /// The bytes are not an image.
     Image(ImageFault),
 }
 
 /// Why no model was read.
 #[derive(Drop)]
 pub enum ModelError {
-    /// There is no memory.
+    /// Memory ran out.
     Memory,
-    /// The bytes mean none.
+    /// The bytes are not a model.
     Fault(NoModel),
 }
 
-/// The model that a text means. `Fault` says why it means none.
+/// Reads a model's text. Returns `Fault` if it is faulty.
 pub fn read_text<A: Allocator + Copy>(alloc: A, bytes: &[u8]) -> Result<Model<A>, ModelError>
     ensures ok { IfOk result (λ model. of_text (meaning bytes.now) ≡ Ok model) }
     ensures fault { IfErr result (IsWhy (of_text {A = A} (meaning bytes.now))) }
@@ -41,7 +41,7 @@ pub fn read_text<A: Allocator + Copy>(alloc: A, bytes: &[u8]) -> Result<Model<A>
     }
 }
 
-/// The model whose image the bytes are. `Fault` says why they are none.
+/// Reads a model's image. Returns `Fault` if it is faulty.
 pub fn read_image<A: Allocator + Copy>(alloc: A, bytes: &[u8]) -> Result<Model<A>, ModelError>
     ensures ok { IfOk result (λ model. of_image (loaded bytes.now) ≡ Ok model) }
     ensures fault { IfErr result (IsWhy (of_image {A = A} (loaded bytes.now))) }
@@ -60,7 +60,7 @@ fn is_image(bytes: &[u8]) -> bool
     bytes.starts_with(b"ACTA")
 }
 
-/// The model that the bytes mean: an image if they begin with `ACTA`, else a text. `Fault` says why they mean none.
+/// Reads a model: an image if the bytes begin with `ACTA`, otherwise a text. Returns `Fault` if they are faulty.
 pub fn read_model<A: Allocator + Copy>(alloc: A, bytes: &[u8]) -> Result<Model<A>, ModelError>
     ensures ok { IfOk result (λ model. of_either bytes.now ≡ Ok model) }
     ensures fault { IfErr result (IsWhy (of_either {A = A} bytes.now)) }

@@ -10,7 +10,7 @@ use crate::source::ReadFault;
 pub enum Outcome {
     /// The whole input was answered.
     Done,
-    /// The model or a line of the input is faulty. The output says so last.
+    /// The model or a line of the input is faulty. The last line of the output reports it.
     Refused,
     /// A read failed, the model or the input is too long, or memory ran out. Nothing was written.
     Unread(ReadFault),
@@ -19,7 +19,7 @@ pub enum Outcome {
 }
 
 impl Outcome {
-    /// The exit status of a program that ends so: 0, 1 or 3.
+    /// The exit status of a program that ends in this way: 0, 1 or 3.
     pub fn code(self) -> u8
         ensures { result ≡ code_of self }
     {

@@ -1,4 +1,4 @@
-//! Reports: what is to be written, before it is.
+//! Reports: the output, before it is written.
 
 ghost use Rattle.std.specs.Prelude.{◌≡◌, ◌∷◌, [], false, true, IfOk, None};
 ghost use Rattle.acta_words.specs.Text.{text_of};
@@ -14,14 +14,14 @@ use crate::sink::Sink;
 use acta_words::push_line;
 use std::alloc::{AllocError, Allocator};
 
-/// What is to be written, and whether the input was refused.
+/// The output, and whether the input was refused.
 #[derive(Drop)]
 pub struct Report<A: Allocator> {
     pub text: Vec<u8, A>,
     pub is_refused: bool,
 }
 
-// This text, which refuses the input.
+// A refusal with this text.
 fn refusal<A: Allocator>(text: Vec<u8, A>) -> Report<A>
     ensures { output_of result ≡ record { is_refused = true; text = text.items } }
 {
@@ -31,7 +31,7 @@ fn refusal<A: Allocator>(text: Vec<u8, A>) -> Report<A>
     }
 }
 
-/// What is told of bytes that mean no model.
+/// The report on bytes that are not a model.
 pub fn refuse_model<A: Allocator>(alloc: A, fault: NoModel) -> Result<Report<A>, AllocError>
     ensures { IfOk result (λ report. output_of report ≡ refused_model fault) }
 {
@@ -40,7 +40,7 @@ pub fn refuse_model<A: Allocator>(alloc: A, fault: NoModel) -> Result<Report<A>,
     Ok(refusal(text))
 }
 
-/// What is told where a line says nothing.
+/// The report on a faulty line.
 pub fn refuse_line<A: Allocator>(alloc: A, stop: BadLine) -> Result<Report<A>, AllocError>
     ensures { IfOk result (λ report. output_of report ≡ record { is_refused = true; text = text_of (stop_line stop ∷ []) }) }
 {
@@ -49,7 +49,7 @@ pub fn refuse_line<A: Allocator>(alloc: A, stop: BadLine) -> Result<Report<A>, A
     Ok(refusal(text))
 }
 
-/// What is told by this line alone, which refuses the input.
+/// A refusal with this line alone.
 pub fn refuse_by<A: Allocator>(alloc: A, line: &[u8]) -> Result<Report<A>, AllocError>
     ensures { IfOk result (λ report. output_of report ≡ record { is_refused = true; text = text_of (line.now ∷ []) }) }
 {

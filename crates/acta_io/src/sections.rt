@@ -1,4 +1,4 @@
-//! The two sections of a debug script: events before the first line `--`, and behind it commands to a debugger.
+//! The two sections of a debug script: events before the first line `--`, and commands to a debugger after it.
 
 ghost use Rattle.std.specs.Prelude.{◌≡◌, ◌<◌, ◌+◌, ◌-◌, ◌^◌, drop, length, option_map, IfNone, IfOk, Some};
 ghost use Rattle.acta_script.specs.Reading.{event_of};
@@ -8,22 +8,22 @@ ghost use Rattle.acta_io.specs.Input.{parsed_in};
 ghost use Rattle.acta_io.specs.Sections.{ends_events, script_commands, script_events};
 ghost use Rattle.acta_io.specs.inside.Sections.{commands_from, parsed_of};
 
-use crate::input::{BadLine, CommandLines, EventLines, Input, read_left, read_lines};
+use crate::input::{BadLine, CommandLines, EventLines, Input, NonBlankLine, read_left, read_lines};
 use acta_script::DebugCommand;
 use acta_table::{Event, Model};
 use acta_words::{Lines, words_of};
 use std::alloc::{AllocError, Allocator};
 
-/// What a debug script says.
+/// A parsed debug script.
 #[derive(Drop)]
-pub struct Script<A: Allocator> {
+pub struct Script<'a, A: Allocator> {
     /// The events, up to the first faulty line before the line `--`.
-    pub events: Input<Event<A>, A>,
-    /// The commands, up to the first faulty line behind the line `--`. None are read where a line of the events is faulty.
-    pub commands: Input<DebugCommand, A>,
+    pub events: Input<'a, Event<A>, A>,
+    /// The commands, up to the first faulty line after the line `--`. None are read if a line of the events is faulty.
+    pub commands: Input<'a, DebugCommand, A>,
 }
 
-// Whether the line has the word `--` and no other.
+// Whether `--` is the only word of the line.
 fn ends_events<A: Allocator + Copy>(alloc: A, line: &[u8]) -> Result<bool, AllocError>
     ensures { IfOk result (λ ends. ends ≡ ends_events line.now) }
 {
@@ -33,7 +33,7 @@ fn ends_events<A: Allocator + Copy>(alloc: A, line: &[u8]) -> Result<bool, Alloc
     }
 }
 
-// The lines of the input behind so many.
+// The lines of the input after the first `count`.
 fn lines_behind(input: &[u8], count: usize) -> Lines<'_>
     ensures lines { lines_to_come result ≡ drop count (lines_of input.now) }
     ensures few { count + length (lines_to_come result) < 2 ^ 64 }
@@ -47,13 +47,13 @@ fn lines_behind(input: &[u8], count: usize) -> Lines<'_>
     lines
 }
 
-// What is said of commands behind the line that stopped the events, if it ends them.
-fn commands_behind<A: Allocator + Copy>(
+// The commands after the line that stopped the events, if it is the line `--`.
+fn commands_behind<'a, A: Allocator + Copy>(
     alloc: A,
     model: &Model<A>,
-    input: &[u8],
+    input: &'a [u8],
     stop: BadLine,
-) -> Result<Option<Input<DebugCommand, A>>, AllocError>
+) -> Result<Option<Input<'a, DebugCommand, A>>, AllocError>
     requires { 0 < stop.line }
     ensures { IfOk result (λ found. option_map parsed_of found ≡ commands_from model.now stop.line (drop (stop.line - 1) (lines_of input.now))) }
 {
@@ -69,14 +69,15 @@ fn commands_behind<A: Allocator + Copy>(
     Ok(Some(commands))
 }
 
-// What a script says whose events are stopped by this line: a fault, if the line doesn't end the events.
-fn script_behind<A: Allocator + Copy>(
+// The script whose events this line stopped. The line is a fault, unless it is the line `--`.
+fn script_behind<'a, A: Allocator + Copy>(
     alloc: A,
     model: &Model<A>,
-    input: &[u8],
+    input: &'a [u8],
     events: Vec<Event<A>, A>,
+    lines: Vec<NonBlankLine<'a>, A>,
     stop: BadLine,
-) -> Result<Script<A>, AllocError>
+) -> Result<Script<'a, A>, AllocError>
     requires { parsed_in (event_of model.now) input.now ≡ record { parsed = events.items; stop = Some stop } }
     ensures events { IfOk result (λ script. parsed_of script.events ≡ script_events model.now input.now) }
     ensures commands { IfOk result (λ script. IfNone script.events.stop (parsed_of script.commands ≡ script_commands model.now input.now)) }
@@ -86,6 +87,7 @@ fn script_behind<A: Allocator + Copy>(
         Some(commands) => Ok(Script {
             events: Input {
                 parsed: events,
+                lines,
                 stop: None,
             },
             commands,
@@ -93,35 +95,45 @@ fn script_behind<A: Allocator + Copy>(
         None => Ok(Script {
             events: Input {
                 parsed: events,
+                lines,
                 stop: Some(stop),
             },
             commands: Input {
                 parsed: Vec::new(alloc),
+                lines: Vec::new(alloc),
                 stop: None,
             },
         }),
     }
 }
 
-/// What a debug script says. Events stand before the first line that has the word `--` and no other, and commands
-/// behind it; where there is no such line, there are no commands. A line `--` says no event: so the events stop there,
-/// and where the line that stops them is this one, it is no fault.
-pub fn read_script<A: Allocator + Copy>(
+/// Parses a debug script: events before the first line whose only word is `--`, and commands after it, none if there is no
+/// such line. The line `--` is not an event, so it stops the events; it is not a fault.
+pub fn read_script<'a, A: Allocator + Copy>(
     alloc: A,
     model: &Model<A>,
-    input: &[u8],
-) -> Result<Script<A>, AllocError>
+    input: &'a [u8],
+) -> Result<Script<'a, A>, AllocError>
     ensures events { IfOk result (λ script. parsed_of script.events ≡ script_events model.now input.now) }
     ensures commands { IfOk result (λ script. IfNone script.events.stop (parsed_of script.commands ≡ script_commands model.now input.now)) }
 {
     let reader = EventLines { alloc, model };
-    let Input { parsed, stop } = read_lines(alloc, &reader, input)?;
+    let Input {
+        parsed,
+        lines,
+        stop,
+    } = read_lines(alloc, &reader, input)?;
     match stop {
-        Some(stop) => script_behind(alloc, model, input, parsed, stop),
+        Some(stop) => script_behind(alloc, model, input, parsed, lines, stop),
         None => Ok(Script {
-            events: Input { parsed, stop: None },
+            events: Input {
+                parsed,
+                lines,
+                stop: None,
+            },
             commands: Input {
                 parsed: Vec::new(alloc),
+                lines: Vec::new(alloc),
                 stop: None,
             },
         }),

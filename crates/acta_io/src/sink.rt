@@ -1,4 +1,4 @@
-//! A writer that tells whether a write has failed.
+//! A writer that records whether a write has failed.
 
 ghost use Rattle.std.specs.Prelude.{◌≡◌, ℕ, List, Bool, Option, OnOk, OnErr, true, false};
 ghost use Rattle.std.specs.Io.KnownBytes.{Appends};
@@ -6,14 +6,13 @@ ghost use Rattle.std.specs.Io.KnownBytes.{Appends};
 use std::io;
 use std::io::Write;
 
-/// A writer that tells whether a write has failed.
+/// A writer that records whether a write has failed.
 pub trait Sink {
     ghost contents: { Self → Option (List ℕ) };
 
     ghost has_failed: { Self → Bool };
 
-    /// Writes all the bytes, and passes them on at once. `Err` where that fails, and then part of them may have been
-    /// written.
+    /// Writes all the bytes, and flushes them. On `Err` part of them may have been written.
     fn put(&mut self, bytes: &[u8]) -> io::Result<()>
         ensures bytes { OnOk result (Appends (contents self.old) (contents self.new) bytes.now) }
         ensures worked { OnOk result (has_failed self.new ≡ has_failed self.old) }
@@ -28,7 +27,7 @@ pub struct Watched<W: Write> {
 }
 
 impl<W: Write> Watched<W> {
-    /// The writer, not written yet.
+    /// Wraps a writer before its first write.
     pub fn new(inner: W) -> Watched<W>
         ensures failed { result.has_failed ≡ false }
         ensures same { result.inner ≡ inner }
@@ -39,7 +38,7 @@ impl<W: Write> Watched<W> {
         }
     }
 
-    // Writes all the bytes to the writer inside, and passes them on.
+    // Writes all the bytes to the inner writer, and flushes them.
     fn put_through(&mut self, bytes: &[u8]) -> io::Result<()>
         ensures bytes { OnOk result (Appends (W.contents self.old.inner) (W.contents self.new.inner) bytes.now) }
         ensures failed { self.new.has_failed ≡ self.old.has_failed }

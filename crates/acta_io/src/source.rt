@@ -1,5 +1,5 @@
-//! All the bytes of a reader whose reads are counted, so that a contract can say how often it was read
-//! and whether a read failed.
+//! Reads all bytes of a reader. The reads are counted, so that a contract can state how often it was read and whether a read
+//! failed.
 
 ghost use Rattle.std.specs.Prelude.{◌≡◌, ◌≤◌, ◌+◌, ◌<◌, ◌^◌, ◌-◌, ℕ, min, List, Bool, Option, length, vec_len, IfOk, IfErr, OnOk, OnErr, IfSome, MatchResult, None, Some, true, false};
 ghost use Rattle.std.specs.Io.{ReadsAtMost};
@@ -11,23 +11,23 @@ use std::alloc::Allocator;
 use std::io;
 use std::io::Read;
 
-/// The most bytes that an input or a model has (our limit).
+/// The most bytes of an input or a model.
 pub const MOST_BYTES: usize = 16_777_216;
 
 const MOST_READS: u32 = 16_777_217;
 
-/// Why input was not taken, or not answered.
+/// Why the input was not read, or not answered.
 #[derive(Clone, Copy, Debug, PartialEq, Eq)]
 pub enum ReadFault {
     /// A read failed.
     Device,
     /// The reader has more than 16,777,216 bytes, or it doesn't end.
     TooMuch,
-    /// There is no memory for the bytes, or for their answer.
+    /// Memory ran out for the bytes, or for their answer.
     Memory,
 }
 
-/// A reader that tells how often it was read, up to 4,294,967,295 times, and whether a read has failed.
+/// A reader that records how often it was read, up to 4,294,967,295 times, and whether a read has failed.
 pub trait Source {
     ghost remaining: { Self → Option (List ℕ) };
 
@@ -53,7 +53,7 @@ pub struct Metered<R: Read> {
 }
 
 impl<R: Read> Metered<R> {
-    /// The reader, not read yet.
+    /// Wraps a reader before its first read.
     pub fn new(inner: R) -> Metered<R>
         ensures reads { result.reads ≡ 0 }
         ensures failed { result.has_failed ≡ false }
@@ -84,15 +84,15 @@ impl<R: Read> Source for Metered<R> {
     }
 }
 
-/// All the bytes that the reader has, which are at most 16,777,216, by at most one read more than that.
-/// `Device` where a read fails, and then no other read follows; `TooMuch` where the reader has more
-/// bytes or doesn't end; `Memory` where there is none.
+/// Reads all bytes of the reader, at most 16,777,216, with at most one more read than that. Returns `Device` if a read
+/// fails, after which no other read follows; `TooMuch` if the reader has more bytes or doesn't end; `Memory` if memory runs
+/// out.
 pub fn read_all<A: Allocator, S: Source>(alloc: A, reader: &mut S) -> Result<Vec<u8, A>, ReadFault>
     ensures bytes { IfOk result (λ v. IfSome (S.remaining reader.old) (λ xs. v.items ≡ xs)) }
     ensures size { IfOk result (λ v. vec_len v ≤ 16777216) }
     ensures too_much { IfErr result (λ e. e ≡ too_much → IfSome (S.remaining reader.old) (λ xs. 16777216 < length xs)) }
     ensures reads { S.reads reader.new ≤ S.reads reader.old + 16777217 }
-    // Where none had failed before, `Device` is the answer exactly where a read fails.
+    // If no read had failed before, `Device` is returned exactly if a read fails.
     ensures failed { MatchResult result (λ _. FailsBy None (S.has_failed reader.old) (S.has_failed reader.new)) (λ e. FailsBy (Some e) (S.has_failed reader.old) (S.has_failed reader.new)) }
 {
     let mut bytes = Vec::new(alloc);
@@ -115,8 +115,8 @@ pub fn read_all<A: Allocator, S: Source>(alloc: A, reader: &mut S) -> Result<Vec
     Err(ReadFault::TooMuch)
 }
 
-/// The whole input, where neither it nor the model is too long. `Device`, `TooMuch` and `Memory` come as from `read_all`,
-/// and `TooMuch` also if the model has more than 16,777,216 bytes.
+/// Reads the whole input, if the model is not too long. Returns `Device`, `TooMuch` and `Memory` as `read_all` does, and
+/// also `TooMuch` if the model has more than 16,777,216 bytes.
 pub fn read_within<A: Allocator, S: Source>(
     alloc: A,
     model: &[u8],

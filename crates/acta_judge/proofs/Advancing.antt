@@ -1,4 +1,4 @@
--- The places of a walk, some at a time.
+-- The places of a walk, part by part.
 use Rattle.std.proofs.Common.{◌≡◌, ℕ, ◌+◌, List, [], ◌∷◌, ◌++◌, length, take, drop, flat_map, append_assoc, append-nil, sym, ap, refl, ◌∙◌, arith}
 use Rattle.std.specs.Prelude.{zero, suc}
 use Rattle.std.proofs.Math.Seq.{take-add, drop-nil}
@@ -38,7 +38,7 @@ stepped-advanced {A} w = by_items w.ahead refl
         λ i. let v : Walked A = record { model = w.model; front = front i; ahead = is i } in v
     by_items (k ∷ ks) is = refl
 
--- no item further is where the walk stands
+-- zero items further is where the walk is
 pub advanced-none : {A : Type 0} (w : Walked A) → w ≡ advanced 0 w
 advanced-none w =
     let front = sym (append-nil w.front) in
@@ -51,13 +51,13 @@ advanced-all w =
     let none = drop_of_length-le w.ahead {i = length w.ahead} (omega arith) in
     λ i. record { model = w.model; front = w.front ++ whole i; ahead = none i }
 
--- whoever has gone further has the same end
+-- a walk that has gone further has the same end
 pub end-advanced : {A : Type 0} (n : ℕ) (w : Walked A) → at_end (advanced n w) ≡ at_end w
 end-advanced n w =
     let front = append_assoc w.front (take n w.ahead) (drop n w.ahead) ∙ ap (λ xs. w.front ++ xs) (take-append-drop n w.ahead) in
     λ i. record { model = w.model; front = front i; ahead = [] }
 
--- the faults at some places and at others behind them are those at both
+-- the faults at some places and at others after them are those at both
 faults-behind : {A : Type 0} (w : Walked A) (some others : List (Kept A)) →
     flat_map (faults_at w.model) (places_behind w.front some) ++ flat_map (faults_at w.model) (places_behind (w.front ++ some) others)
     ≡ flat_map (faults_at w.model) (places_behind w.front (some ++ others))

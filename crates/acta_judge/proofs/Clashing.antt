@@ -1,4 +1,4 @@
--- Who owes both a commit and an abort: by the debts of a history as by its edges.
+-- The transactions that owe both a commit and an abort: by the debts of a history as by its edges.
 use Rattle.std.proofs.Common.{◌≡◌, ℕ, ◌+◌, Bool, true, false, ◌&&◌, ◌||◌, ◌==◌, List, [], ◌∷◌, map, filter, refl, ap, ◌∙◌}
 use Rattle.std.specs.Prelude.{Option, Some, None, option_map, filter_map, if◌then◌else◌}
 use Rattle.std.specs.List.{list_any, enumerate_from, cons_option}
@@ -16,7 +16,7 @@ use Rattle.acta_axioms.specs.Legal.{debt_in, owed_on, owed, owes_abort_in}
 use Rattle.acta_judge.specs.Broken.{clashing}
 use Rattle.acta_judge.specs.inside.Edges.{aborting, owes_abort, clashing_among}
 
--- one is in the set where by some debt it owes an abort
+-- a transaction is in the set if by some debt it owes an abort
 pub in_aborting : (debts : List Owed) (t : ℕ) → list_any (is_at (nat_cmp t)) (aborting debts) ≡ list_any (owes_abort t) debts
 in_aborting debts t = in-passing (λ o. is_abort (Some o.missing)) (λ o. o.txn.0) t debts
 
@@ -33,7 +33,7 @@ module _ {A : Type 0} (h : List (Kept A)) where
   abort-first t n e debts later same None = same ∙ skipped (e.j.0 == t) later
   abort-first t n e debts later same (Some missing) = ap (λ (b : Bool). ((e.j.0 == t) && is_abort (Some missing)) || b) same
 
-  -- t owes an abort by the debts of some edges where it owes one by the edges
+  -- t owes an abort by the debts of some edges if it owes one by the edges
   aborts-by-debts : (t n : ℕ) (es : List Edge) → list_any (owes_abort t) (debts-from n es) ≡ list_any (owes_abort_in h t) es
   aborts-by-debts t n [] = refl
   aborts-by-debts t n (e ∷ es) = abort-first t n e (debts-from (n + 1) es) (list_any (owes_abort_in h t) es) (aborts-by-debts t (n + 1) es) (debt_in h e)
@@ -56,7 +56,7 @@ module _ {A : Type 0} (h : List (Kept A)) where
     commit-first n e debts es same None = same
     commit-first n e debts es same (Some missing) = commit-passes (is_commit (Some missing) && test e.j.0) _ _ _ _ refl same
 
-    -- who owes a commit and passes a test, by the debts of some edges and by the edges
+    -- the transactions that owe a commit and pass a test, by the debts of some edges and by the edges
     commits-by-debts : (n : ℕ) (es : List Edge) → committing (debts-from n es) ≡ committing-in es
     commits-by-debts n [] = refl
     commits-by-debts n (e ∷ es) = commit-first n e (debts-from (n + 1) es) es (commits-by-debts (n + 1) es) (debt_in h e)

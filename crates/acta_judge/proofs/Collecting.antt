@@ -1,4 +1,4 @@
--- What a list of results holds that threads have found.
+-- The results that threads have found.
 use Rattle.std.proofs.Common.{subst, ◌≡◌, List, [], ◌∷◌, map, Ok, Err, refl, ap₂}
 use Rattle.std.specs.Prelude.{Result, IfOk, MatchResult}
 use Rattle.std.specs.List.{AllZip}

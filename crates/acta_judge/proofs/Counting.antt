@@ -1,4 +1,4 @@
--- How many operations stand before a place.
+-- The number of operations before a place.
 use Rattle.std.proofs.Common.{◌≡◌, ◌+◌, suc, if◌then◌else◌, List, [], ◌∷◌, ◌++◌, length, filter, refl, ap, ◌∙◌}
 use Rattle.std.specs.List.{filter_map, cons_option}
 use Rattle.std.proofs.lemmas.List.{length-map}
@@ -21,7 +21,7 @@ counted before [] = refl
 counted before (k ∷ ks) =
     counted-one (record { before = before; kept = k }) k.event k (filter_map operation_at (places_behind (before ++ k ∷ []) ks)) (filter (λ x. is_operate x.event) ks) (counted (before ++ k ∷ []) ks)
 
--- an operation that stands behind these items has the number behind the last of theirs
+-- an operation that follows these items has the number after their last one's
 pub number_shown : {A : Type 0} (m : Parts A) (h : List (Kept A)) → length (held_ops m h) + 1 ≡ number_after h
 number_shown m h =
     ap (λ n. n + 1) (length-map (operations h) (λ (o : Operation). held_op o (standing m h o)) ∙ counted [] h ∙ length-filter (λ k. is_operate k.event) h)

@@ -18,6 +18,6 @@ first-some [] = refl
 first-some (None ∷ rs) = first-some rs
 first-some (Some r ∷ rs) = settled r rs
 
--- there is a lowest rule that is broken where some rule is
+-- if some rule is broken, there is a lowest broken rule
 pub refused_some : {A : Type 0} (m : Parts A) (e : Event A) → is_some (form_refusal m e) ≡ list_any is_some (bad_number e ∷ bad_class m e ∷ bad_object m e ∷ bad_operation m e ∷ same_transaction e ∷ [])
 refused_some m e = first-some (bad_number e ∷ bad_class m e ∷ bad_object m e ∷ bad_operation m e ∷ same_transaction e ∷ [])

@@ -7,7 +7,7 @@ use Rattle.acta_table.specs.Ancestors.{ancestors_from}
 use Rattle.acta_axioms.specs.History.{Place, number, first, starts, course, spawner, parent_of, ancestors}
 use Rattle.acta_axioms.proofs.Growth.{HasStartedBy, parent_earlier, started_within}
 
--- one that has a parent has started
+-- a transaction that has a parent has started
 child_begun : {A : Type 0} (h : List (Kept A)) (t : ℕ) (p : TxnId) → parent_of h t ≡ Some p → HasStartedBy h t (length h)
 child_begun {A} h t p parent = started_within h t (of_first (first (starts t) h) parent)
   where
@@ -15,7 +15,7 @@ child_begun {A} h t p parent = started_within h t (of_first (first (starts t) h)
     of_first None is = cc
     of_first (Some q) is = refl
 
--- of one that started up to the nth place a line of n ancestors is whole
+-- if a transaction started up to the nth place, its list of n ancestors is complete
 one_more : {A : Type 0} (h : List (Kept A)) (n t i : ℕ) (up : Option TxnId) → (course h t).start ≡ Some i → i ≤ n → parent_of h t ≡ up
     → ancestors_from n (parent_of h) up ≡ ancestors_from (suc n) (parent_of h) up
 one_more h n t i None start within parent = refl
@@ -27,7 +27,7 @@ one_more h (suc n) t i (Some p) start within parent =
     let low : earlier.0 ≤ n = (let before : earlier.0 < i = earlier.2 in omega (arith, before, within)) in
     ap (λ line. p ∷ line) (one_more h n p.0 earlier.0 (parent_of h p.0) earlier.1 low refl)
 
--- a line that is long enough goes on with the parent's
+-- a list of ancestors that is long enough continues with the parent's
 through : {A : Type 0} (h : List (Kept A)) (n t i : ℕ) (p : TxnId) → (course h t).start ≡ Some i → i ≤ n → parent_of h t ≡ Some p
     → ancestors_from n (parent_of h) (Some p) ≡ p ∷ ancestors_from n (parent_of h) (parent_of h p.0)
 through h n t i p start within parent = one_more h n t i (Some p) start within parent

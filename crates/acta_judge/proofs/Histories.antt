@@ -10,7 +10,7 @@ use Rattle.acta_axioms.specs.declared.fault.Fault.{Fault}
 use Rattle.acta_axioms.proofs.Histories.{form, objects, class}
 use Rattle.acta_judge.specs.declared.verdict.Verdict.{Verdict}
 
--- these faults, and nothing owed
+-- these faults, and no debts
 abbrev pub found : List Fault → Verdict (Unit {0})
 found faults = record { faults = faults; owed = [] }
 
@@ -18,15 +18,16 @@ found faults = record { faults = faults; owed = [] }
 abbrev pub owing : List Owed → Verdict (Unit {0})
 owing owed = record { faults = []; owed = owed }
 
--- no fault, and nothing owed
+-- no fault, and no debts
 abbrev pub faultless : Verdict (Unit {0})
 faultless = record { faults = []; owed = [] }
 
--- one class that starts by begin and may all
+-- one class that starts by begin and allows all events
 abbrev pub free : Parts (Unit {0})
 free = record { objects = objects; classes = class true 255 ∷ [] }
 
--- class 0 is such a class, and class 1 starts by a spawn only, may all, and commits to its parent; a spawn forms no edge
+-- class 0 is such a class; class 1 starts only by a spawn, allows all events, and commits to its parent; a spawn forms no
+-- edge
 abbrev pub untied : Parts (Unit {0})
 untied = record {
   objects = objects;

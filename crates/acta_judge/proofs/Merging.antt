@@ -1,4 +1,4 @@
--- Faults that are put behind others, and the axioms on places in groups.
+-- Faults that are appended to others, and the axioms on places in groups.
 use Rattle.std.proofs.Common.{◌≡◌, ℕ, List, ◌++◌, Option, append_assoc, sym, ap, ◌∙◌}
 use Rattle.std.proofs.lemmas.Grind.{flat_map-append}
 use Rattle.acta_table.specs.declared.event.Event.{Event}
@@ -10,7 +10,7 @@ use Rattle.acta_axioms.specs.declared.fault.Fault.{Fault}
 use Rattle.acta_axioms.specs.Faults.{breaches, faults_of}
 use Rattle.acta_judge.specs.inside.Places.{faults_by, out_of_course, out_of_model, badly_transferred, badly_operated, too_late}
 
--- some put behind, and then others, are put behind at once
+-- appending some and then others is appending both at once
 pub then_others : (old : List Fault) {mid : List Fault} (some others : List Fault) → mid ≡ old ++ some → mid ++ others ≡ old ++ (some ++ others)
 then_others old some others first = ap (λ (xs : List Fault). xs ++ others) first ∙ append_assoc old some others
 

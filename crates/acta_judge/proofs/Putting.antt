@@ -1,4 +1,4 @@
--- Faults that are put in order one by one: those that are told stay told, and no other is.
+-- Faults that are added in order one by one: the earlier ones stay, and only these are added.
 use Rattle.std.proofs.Common.{◌≡◌, Bool, true, false, ◌||◌, List, [], ◌∷◌, fold, refl, sym, ap, ◌∙◌, Ordering, Less, Equal, Greater}
 use Rattle.std.specs.Cmp.{IsTotalOrder, alike_right, nat_cmp_total, on_total, then_total}
 use Rattle.std.specs.List.{list_any}
@@ -53,6 +53,6 @@ reported-merged f faults (k ∷ ks) =
     ∙ ap (λ b. is_reported f ks || b) (reported-with f faults k)
     ∙ regrouped (is_reported f ks) (is_eq (fault_cmp f k)) (is_reported f faults)
 
--- in order the same faults are told
+-- in order, the same faults are reported
 pub reported-in-order : (f : Fault) (faults : List Fault) → is_reported f (in_order faults) ≡ is_reported f faults
 reported-in-order f faults = reported-merged f [] faults ∙ or-nothing (is_reported f faults)

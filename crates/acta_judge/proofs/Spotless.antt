@@ -1,4 +1,4 @@
--- A verdict without faults leaves none at any place.
+-- A verdict without faults has none at any place.
 use Rattle.std.proofs.Common.{◌≡◌, List, [], ◌∷◌, ◌++◌, refl}
 use Rattle.std.specs.Ordering.{match_ordering}
 use Rattle.std.specs.declared.cmp.Ordering.{Ordering}
@@ -22,7 +22,7 @@ with-some (f ∷ faults) fault e = of (fault_cmp fault f) e
     of Equal is = cc
     of Greater is = cc
 
--- what some faults are put into is empty only where it was, and there are none
+-- if some faults with others added are none, there were none
 merged-none : (faults others : List Fault) → merged faults others ≡ [] → faults ≡ []
 merged-none faults [] e = e
 merged-none faults (f ∷ others) e = absurd (with-some faults f (merged-none (with_fault faults f) others e))

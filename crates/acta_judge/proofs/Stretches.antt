@@ -1,4 +1,4 @@
--- What stretches of numbered edges give, one behind the other.
+-- The faults and debts of stretches of numbered edges, one after the other.
 use Rattle.std.proofs.Common.{◌≡◌, ℕ, ◌+◌, List, [], ◌∷◌, ◌++◌, length, map, flat_map, refl, sym, ap, ◌∙◌, arith}
 use Rattle.std.specs.Prelude.{filter_map, option_map}
 use Rattle.std.specs.List.{enumerate_from}
@@ -25,7 +25,7 @@ faults-together h [] = refl
 faults-together h (s ∷ ss) =
     ap (λ fs. flat_map (edge_faults h) s ++ fs) (faults-together h ss) ∙ sym (flat_map-append (edge_faults h) s (flat_map (λ s. s) ss))
 
--- and so of what is owed
+-- and the same for debts
 pub owed-together : {A : Type 0} (h : List (Kept A)) (ss : List (List (ℕ × Edge))) → flat_map (λ part. part.owed) (map (by_edges h) ss) ≡ filter_map (λ e. option_map (owed_on e) (debt_in h e.1)) (flat_map (λ s. s) ss)
 owed-together h [] = refl
 owed-together h (s ∷ ss) =

@@ -1,4 +1,4 @@
--- Words that code and proofs use, beside the definitions that a reader must believe.
+-- Definitions used only by internal contracts and proofs. The public contracts can be read without them.
 pub mod Edges
 pub mod Places
 pub mod Parts

@@ -1,4 +1,4 @@
-//! Who owes both a commit and an abort.
+//! Transactions that owe both a commit and an abort.
 
 ghost use Rattle.std.specs.Prelude.{◌≡◌, IfOk, Some, if◌then◌else◌};
 ghost use Rattle.std.specs.BTreeSet.{insert_key};
@@ -14,7 +14,7 @@ use acta_table::{Missing, Owed};
 use std::alloc::AllocError;
 use std::collections::BTreeSet;
 
-// Puts the one who owes among the others, where an abort is owed.
+// Adds the owing transaction, if an abort is owed.
 fn put_aborting<A: Handle>(debt: &Owed, txns: &mut BTreeSet<u16, A>) -> Result<(), AllocError>
     ensures { IfOk result (λ _. txns.new.keys ≡ (if is_abort (Some debt.now.missing) then insert_key nat_cmp txns.old.keys debt.now.txn.0 else txns.old.keys)) }
 {
@@ -24,7 +24,7 @@ fn put_aborting<A: Handle>(debt: &Owed, txns: &mut BTreeSet<u16, A>) -> Result<(
     Ok(())
 }
 
-// Who owes an abort.
+// The transactions that owe an abort.
 fn aborting<A: Handle>(alloc: A, debts: &[Owed]) -> Result<BTreeSet<u16, A>, AllocError>
     ensures { IfOk result (λ txns. txns.keys ≡ aborting debts.now) }
 {
@@ -35,7 +35,7 @@ fn aborting<A: Handle>(alloc: A, debts: &[Owed]) -> Result<BTreeSet<u16, A>, All
     Ok(txns)
 }
 
-// Whether a commit is owed by this debt, by one of those who owe an abort by some of these.
+// Whether the debt is a commit, owed by a transaction that also owes an abort.
 #[tactic(auto, using(crate::proofs::Clashing::in_aborting))]
 fn clashes_among<A: Handle>(owing: &BTreeSet<u16, A>, debts: &[Owed], debt: &Owed) -> bool
     requires { owing.now.keys ≡ aborting debts.now }
@@ -44,7 +44,7 @@ fn clashes_among<A: Handle>(owing: &BTreeSet<u16, A>, debts: &[Owed], debt: &Owe
     matches!(debt.missing, Missing::Commit) && owing.contains(&debt.txn.0)
 }
 
-/// The faults by who owes both a commit and an abort by these debts, at this place.
+/// The faults at this place of the transactions that owe both a commit and an abort by these debts.
 pub(crate) fn report_clashes<A: Handle>(
     alloc: A,
     place: u32,

@@ -1,4 +1,4 @@
-//! How a long list is cut, to be judged in threads.
+//! How a long list is cut into parts for threads.
 
 ghost use Rattle.std.specs.Prelude.{◌≤◌};
 
@@ -7,14 +7,14 @@ use rayon::current_num_threads;
 use std::alloc::Allocator;
 use std::thread::Threads;
 
-/// How many places a part has at least, where threads pay for places: fewer are not worth the copies of a walk.
+/// The least number of places in a part, if threads pay: fewer are not worth the copies of a walk.
 const LEAST_PLACES: usize = 1024;
 
-/// How many edges a part has at least, where nothing else is asked: fewer are not worth a thread.
+/// The least number of edges in a part, by default: fewer are not worth a thread.
 const LEAST_EDGES: usize = 16_384;
 
-/// How lists are cut: into at most so many parts, each of at least so many places or edges but the last. A list that
-/// makes one part is judged by no other thread.
+/// How lists are cut: the most parts, and the least number of places or edges of each part but the last. A list of one part
+/// is judged without threads.
 #[derive(Clone, Copy)]
 pub struct Cut {
     pub parts: usize,
@@ -22,16 +22,16 @@ pub struct Cut {
     pub edges: usize,
 }
 
-// Whether a judge looks at each ancestor of a transaction with this class: it refuses what conflicts with others but its
-// ancestors.
+// Whether judging an operation of this class visits each ancestor of its transaction: the class refuses conflicts, but
+// exempts ancestors.
 fn is_dear<A: Allocator>(class: &Class<A>) -> bool {
     class.policy.refuses() && matches!(class.scope, Scope::NonAncestors)
 }
 
 impl Cut {
-    /// A part for each processor, where threads pay. A walk goes through all places before any thread has a part of
-    /// them, and to go over a place takes about as long as to judge it; but not where a judge looks at each ancestor. So
-    /// by a model that has no such class all places are one part.
+    /// One part for each processor, if threads pay. A walk passes all places before the threads get their parts, and passing
+    /// a place takes about as long as judging it, unless judging visits ancestors. So the places are cut only if the model
+    /// has such a class.
     pub fn usual<A: Allocator, R: Threads>(rt: &R, model: &Model<A>) -> Cut {
         let pays = model.classes().iter().any(|class| is_dear(class));
         Cut {
@@ -41,7 +41,7 @@ impl Cut {
         }
     }
 
-    /// How long the parts of a list of this length are, but for the last, where none is shorter than this.
+    /// The length of each part but the last, for a list of this length, at least `least`.
     pub(crate) fn size(self, length: usize, least: usize) -> usize
         ensures { 1 ≤ result }
     {

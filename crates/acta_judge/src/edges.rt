@@ -1,4 +1,4 @@
-//! The edges that a list forms in parts: each is judged by the courses of the whole list.
+//! The edges that a list forms, judged in parts by the courses of the whole list.
 
 ghost use Rattle.std.specs.Prelude.{◌≡◌, ◌≤◌, ◌++◌, flat_map, map, IfOk, OnOk};
 ghost use Rattle.std.specs.List.{enumerate_from};
@@ -14,7 +14,7 @@ use rayon::prelude::*;
 use std::alloc::{AllocError, Allocator};
 use std::thread::Threads;
 
-// Some edges in a row. Contracts see each with its number.
+// Consecutive edges. Contracts see each with its number.
 #[derive(Drop)]
 struct Stretch<'a> {
     first: u64,
@@ -33,28 +33,28 @@ impl<'a> std::marker::Model for Stretch<'a> {
     ghost invariant = { λ s. s.first + length s.edges.now < 2 ^ 64 };
 }
 
-/// What some edges give: the faults by them, and what is owed by them.
+/// The faults and the debts of some edges.
 #[derive(Drop)]
 pub(crate) struct ByEdges<A: Allocator> {
     pub(crate) faults: Items<Fault, A>,
     pub(crate) owed: Items<Owed, A>,
 }
 
-// Where the formula of the edge is false with nothing owed.
+// The place where the edge's formula became false, if it is false and nothing is owed for it.
 fn place_in<'a, A: Handle>(walk: &Walk<'a, A>, e: &Edge) -> Option<u32>
     ensures { result ≡ place_in walk.now.front e.now }
 {
     place_by(e.kind, walk.course(e.j), walk.course(e.i))
 }
 
-// What is owed by the edge.
+// The debt of the edge.
 fn debt_in<'a, A: Handle>(walk: &Walk<'a, A>, e: &Edge) -> Option<Missing>
     ensures { result ≡ debt_in walk.now.front e.now }
 {
     debt(e.kind, walk.course(e.j), walk.course(e.i))
 }
 
-// Tells the fault by the edge of this number, if there is one.
+// Adds the fault of the edge with this number, if it has one.
 fn report_edge<'a, A: Handle>(
     walk: &Walk<'a, A>,
     number: u64,
@@ -74,7 +74,7 @@ fn report_edge<'a, A: Handle>(
 }
 
 impl<'a> Stretch<'a> {
-    // What these edges give by the courses of the items in front.
+    // The faults and the debts of these edges by the courses of the items so far.
     fn report<'w, A: Handle>(&self, alloc: A, walk: &Walk<'w, A>) -> Result<ByEdges<A>, AllocError>
         ensures { IfOk result (λ reported. reported ≡ by_edges walk.now.front self.now) }
     {
@@ -100,7 +100,7 @@ impl<'a> Stretch<'a> {
     }
 }
 
-// The edges in stretches of this length, but for the last.
+// Cuts the edges into stretches of this length; the last may be shorter.
 fn stretches<'a, A: Handle>(
     alloc: A,
     edges: &'a [Edge],
@@ -122,7 +122,7 @@ fn stretches<'a, A: Handle>(
     Ok(all)
 }
 
-// What each stretch gives, found in threads.
+// The faults and the debts of each stretch, found in threads.
 fn report_stretches<'a, 's, A: Handle + Send + Sync, R: Threads + Sync>(
     rt: &R,
     alloc: A,
@@ -146,7 +146,7 @@ fn report_stretches<'a, 's, A: Handle + Send + Sync, R: Threads + Sync>(
     }
 }
 
-/// What the edges that the items in front form give, in parts of this size.
+/// The faults and the debts of the edges that the items so far form, in parts of this size.
 #[tactic(auto, unfolding(acta_axioms::specs::Legal::owed))]
 pub(crate) fn report_edges<'a, A: Handle + Send + Sync, R: Threads + Sync>(
     rt: &R,
@@ -162,7 +162,7 @@ pub(crate) fn report_edges<'a, A: Handle + Send + Sync, R: Threads + Sync>(
     report_stretches(rt, alloc, walk, stretches.as_slice())
 }
 
-/// What is owed by all edges, in order.
+/// The debts of all edges, in order.
 pub(crate) fn owed_by<A: Handle>(alloc: A, parts: &[ByEdges<A>]) -> Result<Vec<Owed, A>, AllocError>
     ensures { IfOk result (λ debts. debts.items ≡ flat_map (λ part. part.owed) parts.now) }
 {

@@ -64,7 +64,7 @@ fn payment(kind: Dep) -> Option<Missing>
     }
 }
 
-/// What j owes by an edge of this kind on i.
+/// The debt of j by an edge of this kind on i.
 pub(crate) fn debt(kind: Dep, j: Course, i: Course) -> Option<Missing>
     ensures { result ≡ debt kind j i }
 {
@@ -89,7 +89,7 @@ fn place_broken(kind: Dep, j: Course, i: Course) -> Option<u32>
     }
 }
 
-/// Where the formula of an edge of this kind of j on i is false with nothing owed.
+/// The place where the formula of an edge of this kind of j on i became false, if it is false and j owes nothing for it.
 pub(crate) fn place_by(kind: Dep, j: Course, i: Course) -> Option<u32>
     ensures { result ≡ place_by kind j i }
 {

@@ -16,14 +16,14 @@ use acta_axioms::{Axiom, Fault, Handle, Walk};
 use acta_table::{Event, Kept, OpNo, OpSet, TxnId};
 use std::alloc::AllocError;
 
-// The axiom, at this place.
+// A possible breach of the axiom at this place.
 fn breach(broken: Axiom, place: u32) -> Breach
     ensures { result ≡ record { broken = broken; place = place } }
 {
     Breach { broken, place }
 }
 
-// Who begins, ends or operates where it cannot.
+// Begins, ends and operations of a transaction with the wrong status.
 fn report_course<'a, A: Handle>(
     walk: &Walk<'a, A>,
     place: u32,
@@ -38,7 +38,7 @@ fn report_course<'a, A: Handle>(
     breach(Axiom::OperatesInProgress, place).report_any(operated_idle(walk, event), faults)
 }
 
-// What the model does not have or let.
+// Events that the model lacks or does not allow.
 fn report_model<'a, A: Handle>(
     walk: &Walk<'a, A>,
     place: u32,
@@ -51,7 +51,7 @@ fn report_model<'a, A: Handle>(
     breach(Axiom::Allowed, place).report_any(not_allowed(walk, event), faults)
 }
 
-// Who takes part and is not in progress.
+// Parties that are not in progress.
 fn report_party<'a, A: Handle>(
     walk: &Walk<'a, A>,
     place: u32,
@@ -66,7 +66,7 @@ fn report_party<'a, A: Handle>(
     breach.report_any(idle(walk, other), faults)
 }
 
-// Which of these operations the transaction does not hold in progress.
+// The operations of the set that the transaction does not hold in progress.
 fn report_unheld<'a, A: Handle>(
     walk: &Walk<'a, A>,
     breach: Breach,
@@ -84,7 +84,7 @@ fn report_unheld<'a, A: Handle>(
     Ok(())
 }
 
-// The operations that are delegated, and not held in progress by the transaction that delegates them.
+// The operations to be transferred that the acting transaction does not hold in progress.
 fn report_transferred<'a, A: Handle>(
     walk: &Walk<'a, A>,
     place: u32,
@@ -107,7 +107,7 @@ fn report_transferred<'a, A: Handle>(
     }
 }
 
-// Which of the operations that are held are not among these.
+// The held operations that are not in the set.
 fn report_unnamed<A: Handle>(
     breach: Breach,
     held: &[OpNo],
@@ -124,7 +124,7 @@ fn report_unnamed<A: Handle>(
     Ok(())
 }
 
-// Which operations the transaction holds in progress that are not among these.
+// The operations that the transaction holds in progress and that are not in the set.
 fn report_left<'a, A: Handle>(
     walk: &Walk<'a, A>,
     breach: Breach,
@@ -138,7 +138,7 @@ fn report_left<'a, A: Handle>(
     report_unnamed(breach, held.as_slice(), ops, faults)
 }
 
-// What one that has to hand over all keeps back.
+// The operations that a transaction keeps back although it has to transfer all.
 fn report_kept_back<'a, A: Handle>(
     walk: &Walk<'a, A>,
     place: u32,
@@ -155,7 +155,7 @@ fn report_kept_back<'a, A: Handle>(
     }
 }
 
-// Who takes part, or hands over, what it cannot.
+// Faults of the parties of an event, and of the operations that it transfers.
 fn report_transfer<'a, A: Handle>(
     walk: &Walk<'a, A>,
     place: u32,
@@ -169,7 +169,7 @@ fn report_transfer<'a, A: Handle>(
     report_kept_back(walk, place, event, faults)
 }
 
-// The operations that one conflicts with whose class refuses it.
+// The operations that an operation conflicts with, if its transaction's class refuses conflicts.
 fn report_conflicts<'a, A: Handle>(
     walk: &Walk<'a, A>,
     place: u32,
@@ -187,7 +187,7 @@ fn report_conflicts<'a, A: Handle>(
     }
 }
 
-// An operation that conflicts, and a return that is not due.
+// Conflicts, and returns that are not due.
 fn report_operation<'a, A: Handle>(
     walk: &Walk<'a, A>,
     place: u32,
@@ -201,7 +201,7 @@ fn report_operation<'a, A: Handle>(
     breach(Axiom::Return, place).report_any(by, faults)
 }
 
-// A commit without an heir, and an edge that is formed too late.
+// A commit without an heir, and a form event that comes too late.
 fn report_lateness<'a, A: Handle>(
     walk: &Walk<'a, A>,
     place: u32,
@@ -214,7 +214,7 @@ fn report_lateness<'a, A: Handle>(
     breach(Axiom::FormedInTime, place).report_any(not_in_time(walk, event), faults)
 }
 
-/// Tells the faults of this item at the place that the walk has reached.
+/// Adds the faults of the item at the place that the walk has reached.
 pub(crate) fn report_item<'a, A: Handle>(
     walk: &Walk<'a, A>,
     item: &Kept<A>,

@@ -18,7 +18,7 @@ use acta_table::{Items, Kept, MOST_EVENTS, Model};
 use std::alloc::AllocError;
 use std::thread::Threads;
 
-// The verdict on the list that a walk goes through from its front.
+// The verdict on the list of a walk that has not started.
 fn reported<'a, A: Handle + Send + Sync, R: Threads + Sync>(
     rt: &R,
     alloc: A,
@@ -47,9 +47,8 @@ fn reported<'a, A: Handle + Send + Sync, R: Threads + Sync>(
     })
 }
 
-/// What is wrong with a list of kept items, legal or not, and what is owed at its end (ours, by ACTA's axioms and those
-/// of the model). Where threads pay, a long list is judged in parts (`Cut::usual`). `Err` where the list has more than
-/// `MOST_EVENTS` items, and if memory runs out.
+/// The faults of a list of kept items, legal or not, and the debts at its end. If threads pay, a long list is judged in
+/// parts (`Cut::usual`). Returns `TooLong` if the list has more than `MOST_EVENTS` items, and `Memory` if memory runs out.
 pub fn judge<A: Handle + Send + Sync, R: Threads + Sync>(
     rt: &R,
     alloc: A,
@@ -65,7 +64,7 @@ pub fn judge<A: Handle + Send + Sync, R: Threads + Sync>(
     judge_in_parts(rt, alloc, Cut::usual(rt, model), model, kept)
 }
 
-/// As `judge`, with the list and its edges cut as is said: the verdict is the same however they are cut.
+/// As `judge`, with the list and its edges cut as given. The verdict does not depend on the cut.
 pub fn judge_in_parts<A: Handle + Send + Sync, R: Threads + Sync>(
     rt: &R,
     alloc: A,

@@ -1,7 +1,6 @@
-//! The judge: what is wrong with a history from elsewhere, legal or not, and what is owed at its end. It asks each
-//! axiom at each place of a walk through the history, and the formula of each edge once, both in threads where the history
-//! is long; it rests on the meaning of histories by their places, and never on a machine, so that the two can be checked
-//! against each other.
+//! The judge: finds the faults of any history, legal or not, and the debts at its end. It checks each axiom at each place of
+//! a walk through the history, and the formula of each edge once; it uses threads if the history is long. It depends on the
+//! axioms only, never on a machine, so that the two can be checked against each other.
 //!
 //! A call that allocates returns `Err` if memory runs out.
 #![tactic(auto)]

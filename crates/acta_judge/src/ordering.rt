@@ -1,4 +1,4 @@
-//! Faults put in order, each once.
+//! Puts faults in order, each once.
 
 ghost use Rattle.std.specs.Prelude.{◌≡◌, ◌++◌, flat_map, IfOk, OnOk};
 ghost use Rattle.std.specs.List.Sorted.{IsStrictlySortedBy};
@@ -11,7 +11,7 @@ use acta_table::Items;
 use std::alloc::AllocError;
 use std::collections::BTreeSet;
 
-// Puts the fault at its place among those in order, unless it is there.
+// Adds the fault, unless it is there.
 fn put<A: Handle>(fault: Fault, ordered: &mut BTreeSet<Fault, A>) -> Result<(), AllocError>
     ensures { OnOk result (ordered.new.keys ≡ with_fault ordered.old.keys fault) }
 {
@@ -19,7 +19,7 @@ fn put<A: Handle>(fault: Fault, ordered: &mut BTreeSet<Fault, A>) -> Result<(), 
     Ok(())
 }
 
-// Puts the faults at their places among those in order.
+// Adds the faults that are not there.
 fn put_all<A: Handle>(faults: &[Fault], ordered: &mut BTreeSet<Fault, A>) -> Result<(), AllocError>
     ensures { OnOk result (ordered.new.keys ≡ merged ordered.old.keys faults.now) }
 {
@@ -29,7 +29,7 @@ fn put_all<A: Handle>(faults: &[Fault], ordered: &mut BTreeSet<Fault, A>) -> Res
     Ok(())
 }
 
-// The same, of the faults at places, part by part.
+// Adds the faults at places, part by part.
 fn put_places<A: Handle>(
     parts: &[Items<Fault, A>],
     ordered: &mut BTreeSet<Fault, A>,
@@ -42,7 +42,7 @@ fn put_places<A: Handle>(
     Ok(())
 }
 
-// The same, of the faults by edges, part by part.
+// Adds the faults of edges, part by part.
 fn put_edges<A: Handle>(
     parts: &[ByEdges<A>],
     ordered: &mut BTreeSet<Fault, A>,
@@ -67,7 +67,7 @@ fn listed<A: Handle>(alloc: A, faults: &BTreeSet<Fault, A>) -> Result<Vec<Fault,
     Ok(listed)
 }
 
-/// The faults at places, by edges and by who owes both a commit and an abort, in order and each once.
+/// The faults at places, of edges, and of transactions that owe both a commit and an abort, in order and each once.
 pub(crate) fn in_order<A: Handle>(
     alloc: A,
     places: &[Items<Fault, A>],

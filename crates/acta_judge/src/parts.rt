@@ -1,4 +1,4 @@
-//! The places of a list in parts: each is judged from a walk of its own that stands before it.
+//! The places of a list in parts: each part is judged from a walk of its own.
 
 ghost use Rattle.std.specs.Prelude.{◌≡◌, ◌≤◌, ◌++◌, flat_map, map, IfOk, OnOk};
 ghost use Rattle.acta_judge.specs.inside.Parts.{advanced, at_end, faults_ahead, faults_left, together};
@@ -10,7 +10,7 @@ use rayon::prelude::*;
 use std::alloc::AllocError;
 use std::thread::Threads;
 
-// Goes so many items further, or to the end.
+// Advances the walk by this many items, or to the end.
 fn skip<'a, A: Handle>(walk: &mut Walk<'a, A>, size: usize) -> Result<(), AllocError>
     ensures { OnOk result (walk.new ≡ advanced size walk.old) }
 {
@@ -20,7 +20,7 @@ fn skip<'a, A: Handle>(walk: &mut Walk<'a, A>, size: usize) -> Result<(), AllocE
     Ok(())
 }
 
-// Tells the faults at the place that is reached, if there is one, and goes one item further.
+// Adds the faults at the next place, if there is one, and advances the walk past it.
 fn report_next<'a, A: Handle>(
     walk: &mut Walk<'a, A>,
     faults: &mut Vec<Fault, A>,
@@ -35,7 +35,7 @@ fn report_next<'a, A: Handle>(
     walk.step()
 }
 
-// The faults at the next places, so many or to the end, and the walk behind them.
+// The faults at the next `size` places, or at all that are left, and the walk after them.
 fn report_part<'a, A: Handle>(
     alloc: A,
     walk: &mut Walk<'a, A>,
@@ -51,7 +51,7 @@ fn report_part<'a, A: Handle>(
     Ok(Items::of(faults))
 }
 
-// The faults at all places that are left, and the walk at its end.
+// The faults at all places left, and the walk at the end.
 fn report_rest<'a, A: Handle>(
     alloc: A,
     walk: &mut Walk<'a, A>,
@@ -63,7 +63,7 @@ fn report_rest<'a, A: Handle>(
     report_part(alloc, walk, left)
 }
 
-// A walk before each of the next parts of this size, so many, and the walk itself behind them.
+// A walk at the start of each of the next parts of this size, and the walk itself after them.
 fn cut<'a, A: Handle>(
     alloc: A,
     walk: &mut Walk<'a, A>,
@@ -81,7 +81,7 @@ fn cut<'a, A: Handle>(
     Ok(parts)
 }
 
-// The faults at the places of the part that this walk stands before, found on a copy of it.
+// The faults at the places of the part at whose start this walk is, found on a copy of it.
 fn report_copy<'a, A: Handle>(
     alloc: A,
     walk: &Walk<'a, A>,
@@ -93,8 +93,8 @@ fn report_copy<'a, A: Handle>(
     report_part(alloc, &mut walk, size)
 }
 
-// The faults of each part, found in threads. The walks are lent: to share out a vector of them would take memory, and
-// its want would not be told.
+// The faults of each part, found in threads. The walks are borrowed: to move a vector of them into threads would allocate,
+// without a way to report a failure.
 fn report_parts<'a, A: Handle + Send + Sync, R: Threads + Sync>(
     rt: &R,
     alloc: A,
@@ -118,8 +118,8 @@ fn report_parts<'a, A: Handle + Send + Sync, R: Threads + Sync>(
     }
 }
 
-/// The faults at all places ahead, and the walk at its end: in threads, in parts of this size, where there is more than
-/// one, and else on the walk itself.
+/// The faults at all places left, and the walk at the end. Threads judge parts of this size if there is more than one;
+/// otherwise the walk itself is used.
 pub(crate) fn report_places<'a, A: Handle + Send + Sync, R: Threads + Sync>(
     rt: &R,
     alloc: A,

@@ -1,4 +1,4 @@
-//! The axioms on places: by which numbers the event at the place that a walk has reached breaks each.
+//! The axioms on places: for each the numbers by which the event at the walk's place breaks it.
 
 ghost use Rattle.std.specs.Prelude.{◌≡◌, false, ◌+◌, ◌++◌, ◌||◌, not, filter, map, length, Some, None, option_map, option_to_list, is_some, if◌then◌else◌, IfOk, OnOk};
 ghost use Rattle.std.specs.Option.{option_map_or};
@@ -17,7 +17,7 @@ use acta_table::{
 };
 use std::alloc::{AllocError, Allocator};
 
-// The number of the transaction, where the test is true.
+// The number of the transaction, if the test is true.
 fn when(test: bool, t: TxnId) -> Option<u32>
     ensures { option_to_list result ≡ when test t.0 }
 {
@@ -52,7 +52,7 @@ fn ended<A: Allocator>(event: &Event<A>) -> Option<TxnId>
     }
 }
 
-/// The one that is started, where it has begun already.
+/// The transaction that is started, if it has already begun.
 pub(crate) fn begun_again<'a, A: Handle>(walk: &Walk<'a, A>, event: &Event<A>) -> Option<u32>
     ensures { option_to_list result ≡ begun_again walk.now.front event.now }
 {
@@ -60,7 +60,7 @@ pub(crate) fn begun_again<'a, A: Handle>(walk: &Walk<'a, A>, event: &Event<A>) -
     when(walk.course(t).has_begun(), t)
 }
 
-/// The one that ends, where it has not begun.
+/// The transaction that ends, if it has not begun.
 pub(crate) fn ended_unbegun<'a, A: Handle>(walk: &Walk<'a, A>, event: &Event<A>) -> Option<u32>
     ensures { option_to_list result ≡ ended_unbegun walk.now.front event.now }
 {
@@ -68,7 +68,7 @@ pub(crate) fn ended_unbegun<'a, A: Handle>(walk: &Walk<'a, A>, event: &Event<A>)
     when(!walk.course(t).has_begun(), t)
 }
 
-/// The one that ends, where it has ended already.
+/// The transaction that ends, if it has already ended.
 pub(crate) fn ended_again<'a, A: Handle>(walk: &Walk<'a, A>, event: &Event<A>) -> Option<u32>
     ensures { option_to_list result ≡ ended_again walk.now.front event.now }
 {
@@ -76,7 +76,7 @@ pub(crate) fn ended_again<'a, A: Handle>(walk: &Walk<'a, A>, event: &Event<A>) -
     when(walk.course(t).has_ended(), t)
 }
 
-/// The one that does an operation, where it is not in progress.
+/// The transaction of an operation, if it is not in progress.
 pub(crate) fn operated_idle<'a, A: Handle>(walk: &Walk<'a, A>, event: &Event<A>) -> Option<u32>
     ensures { option_to_list result ≡ operated_idle walk.now.front event.now }
 {
@@ -86,8 +86,8 @@ pub(crate) fn operated_idle<'a, A: Handle>(walk: &Walk<'a, A>, event: &Event<A>)
     }
 }
 
-/// The first transaction that the event names, where a number, the class, the object or the operation is bad, or two
-/// transactions are one.
+/// The first transaction that the event names, if a number, the class, the object or the operation is bad, or the two
+/// transactions are the same.
 #[tactic(auto, using(crate::proofs::Forms::refused_some))]
 pub(crate) fn ill_formed<A: Allocator>(model: &Model<A>, event: &Event<A>) -> Option<u32>
     ensures { option_to_list result ≡ ill_formed model.now event.now }
@@ -137,7 +137,7 @@ fn lacks_its_kind<'a, A: Handle>(walk: &Walk<'a, A>, event: &Event<A>) -> bool
     }
 }
 
-// Whether an edge is formed where no class may form any, or of one whose class may not.
+// Whether a form event is not allowed: no class may form edges, or the class of one of its transactions may not.
 fn cannot_form<'a, A: Handle>(walk: &Walk<'a, A>, event: &Event<A>) -> bool
     ensures { result ≡ cannot_form walk.now.model walk.now.front event.now }
 {
@@ -151,7 +151,7 @@ fn cannot_form<'a, A: Handle>(walk: &Walk<'a, A>, event: &Event<A>) -> bool
     }
 }
 
-/// The first transaction that the event names, where the model does not let it happen.
+/// The first transaction that the event names, if the model does not allow the event.
 pub(crate) fn not_allowed<'a, A: Handle>(walk: &Walk<'a, A>, event: &Event<A>) -> Option<u32>
     ensures { option_to_list result ≡ not_allowed walk.now.model walk.now.front event.now }
 {
@@ -161,7 +161,7 @@ pub(crate) fn not_allowed<'a, A: Handle>(walk: &Walk<'a, A>, event: &Event<A>) -
     when(is_blocked, first_named(event))
 }
 
-/// The transactions that take part in the event beside ending, and have to be in progress, each once.
+/// The transactions other than an ending one that must be in progress for the event, each once.
 pub(crate) fn party<A: Allocator>(event: &Event<A>) -> (Option<TxnId>, Option<TxnId>)
     ensures { option_to_list (option_map (λ t. t.0) result.0) ++ option_to_list (option_map (λ t. t.0) result.1) ≡ party event.now }
 {
@@ -178,7 +178,7 @@ pub(crate) fn party<A: Allocator>(event: &Event<A>) -> (Option<TxnId>, Option<Tx
     }
 }
 
-/// The one that takes part, where it is not in progress.
+/// The party, if it is not in progress.
 pub(crate) fn idle<'a, A: Handle>(walk: &Walk<'a, A>, t: Option<TxnId>) -> Option<u32>
     ensures { option_to_list result ≡ filter (λ t. not (is_in_progress walk.now.front t)) (option_to_list (option_map (λ t. t.0) t)) }
 {
@@ -186,7 +186,7 @@ pub(crate) fn idle<'a, A: Handle>(walk: &Walk<'a, A>, t: Option<TxnId>) -> Optio
     when(!walk.course(t).is_in_progress(), t)
 }
 
-/// Whether the transaction's class delegates all operations that it holds, or none.
+/// Whether the transaction's class must transfer all operations that it holds, or none.
 pub(crate) fn wants_whole<'a, A: Handle>(walk: &Walk<'a, A>, t: TxnId) -> bool
     ensures { result ≡ has_class (λ k. is_whole k.extent) walk.now.model walk.now.front t.0 }
 {
@@ -196,7 +196,7 @@ pub(crate) fn wants_whole<'a, A: Handle>(walk: &Walk<'a, A>, t: TxnId) -> bool
     }
 }
 
-/// Whether the transaction's class refuses operations that conflict.
+/// Whether the transaction's class refuses conflicting operations.
 pub(crate) fn refuses<'a, A: Handle>(walk: &Walk<'a, A>, t: TxnId) -> bool
     ensures { result ≡ has_class (λ k. refuses k.policy) walk.now.model walk.now.front t.0 }
 {
@@ -217,7 +217,7 @@ fn is_same_ret(a: Ret, b: Ret) -> bool
     }
 }
 
-// Whether there is a return, and it is the one that is due.
+// Whether there is a return, and it is the one due.
 fn is_due(due: Option<Ret>, ret: Option<Ret>) -> bool
     ensures { result ≡ is_due due ret }
 {
@@ -227,14 +227,14 @@ fn is_due(due: Option<Ret>, ret: Option<Ret>) -> bool
     }
 }
 
-// The number of an operation at the place that is reached.
+// The number that an operation at the walk's place has.
 fn number_here<'a, A: Handle>(walk: &Walk<'a, A>) -> u32
     ensures { result ≡ number_after walk.now.front }
 {
     walk.operations().len() as u32 + 1
 }
 
-/// The number of the operation whose return is not the one due, or 0 where what is no operation has a return.
+/// The number of the operation whose return is not the one due, or 0 if an event that is no operation has a return.
 pub(crate) fn wrong_return<'a, A: Handle>(
     walk: &Walk<'a, A>,
     item: &Kept<A>,
@@ -266,7 +266,7 @@ fn commits_to_parent<'a, A: Handle>(walk: &Walk<'a, A>, t: TxnId) -> bool
     }
 }
 
-/// The parent of one that commits to it, where it is not in progress, or 0 where there is none.
+/// The parent of a transaction that commits to it, if it is not in progress, or 0 if there is none.
 pub(crate) fn without_heir<'a, A: Handle>(walk: &Walk<'a, A>, event: &Event<A>) -> Option<u32>
     ensures { option_to_list result ≡ without_heir walk.now.model walk.now.front event.now }
 {
@@ -282,7 +282,7 @@ pub(crate) fn without_heir<'a, A: Handle>(walk: &Walk<'a, A>, event: &Event<A>) 
     }
 }
 
-/// The transaction that has begun or ended too early for the edge to be formed; the smaller number if both have.
+/// The transaction that has already begun or ended when the edge is formed; the smaller number if both have.
 pub(crate) fn not_in_time<'a, A: Handle>(walk: &Walk<'a, A>, event: &Event<A>) -> Option<u32>
     ensures { option_to_list result ≡ not_in_time walk.now.front event.now }
 {

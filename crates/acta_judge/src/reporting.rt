@@ -1,4 +1,4 @@
-//! Faults, put behind those that are known.
+//! Adds faults to a list.
 
 ghost use Rattle.std.specs.Prelude.{◌≡◌, ◌++◌, ◌∷◌, [], OnOk, map, option_to_list, if◌then◌else◌};
 ghost use Rattle.acta_axioms.specs.Faults.{faults_of};
@@ -15,7 +15,7 @@ pub(crate) struct Breach {
 }
 
 impl Breach {
-    /// The axiom is broken by this number.
+    /// Adds the fault with this number.
     pub(crate) fn report<A: Handle>(
         self,
         by: u64,
@@ -31,7 +31,7 @@ impl Breach {
         Ok(())
     }
 
-    /// The axiom is broken by this number, if there is one.
+    /// Adds the fault with this number, if there is a number.
     pub(crate) fn report_any<A: Handle>(
         self,
         by: Option<u32>,
@@ -45,7 +45,7 @@ impl Breach {
         }
     }
 
-    /// The axiom is broken by each of these operations.
+    /// Adds a fault for each of these operations.
     pub(crate) fn report_each<A: Handle>(
         self,
         ops: &[OpNo],

@@ -1,4 +1,4 @@
-//! What a judge answers.
+//! The judge's answer.
 
 ghost use Rattle.std.specs.Prelude.{◌≡◌};
 ghost use Rattle.acta_judge.specs.declared.verdict.JudgeError.TheVariants.{Memory};
@@ -7,8 +7,7 @@ use acta_axioms::Fault;
 use acta_table::{Items, Owed};
 use std::alloc::{AllocError, Allocator};
 
-/// What is said of a history: its faults, in order of axiom, place and number, each once, and what is owed at its end,
-/// by edge number.
+/// The faults of a history, in order of axiom, place and number, each once, and the debts at its end, by edge number.
 #[derive(Drop)]
 pub struct Verdict<A: Allocator> {
     pub faults: Items<Fault, A>,
@@ -20,7 +19,7 @@ pub struct Verdict<A: Allocator> {
 pub enum JudgeError {
     /// The list has more than `MOST_EVENTS` items.
     TooLong,
-    /// There is no memory.
+    /// Memory ran out.
     Memory,
 }
 

@@ -1,4 +1,4 @@
--- The lines of a text that were read, the next one, and the diagnostic of it.
+-- The lines of a text read so far, the next one, and its diagnostic.
 use Rattle.std.proofs.Common.{◌≡◌, ℕ, zero, suc, ◌+◌, ◌-◌, Bool, true, false, cond, List, [], ◌∷◌, ◌++◌, length, take, drop, refl, sym, ap, ◌∙◌, arith, true≢false}
 use Rattle.std.specs.Prelude.{Option, Some, None, is_some, option_and_then, option_map, slice_get, unwrap_or}
 use Rattle.std.specs.Option.{option_or}
@@ -49,13 +49,13 @@ pub declares-next : {A : Type 0} (n : ℕ) (lines : List (List ℕ)) (line : Lis
 declares-next n lines line rest e =
     ap declared (next n lines line rest e).1.0 ∙ fold-push extended_by _ (take n lines) line
 
--- ---- by what is noted
+-- ---- by the notes
 
 or-none : {X : Type 0} (o : Option X) → option_or o None ≡ o
 or-none None = refl
 or-none (Some x) = refl
 
--- the class that is open, under the name that the draft has
+-- the open class, under the name that the draft has
 pub one_name : {A : Type 0} (o : Option (ClassDraft A)) → option_map (λ (c : OpenClass). c.name) (option_map current_shown o) ≡ option_map (λ (c : ClassAt). c.name) (option_map current_at o)
 one_name None = refl
 one_name (Some c) = refl
@@ -140,7 +140,7 @@ at_line {A} text n d x line rest code is h same left =
     ∙ ap (λ l. diagnostic_of A (take n (lines_of text)) l code) found
     ∙ ap (λ k. diagnostic_of A (take k (lines_of text)) (unwrap_or (slice_get (lines_of text) k) []) code) back
 
--- where a line without a fault begins a class, none is open
+-- when a line without a fault begins a class, none is open
 pub none_open : {A : Type 0} (d : Draft A) (o : Option (ClassDraft A)) (parsed : Form) → option_map current_shown o ≡ d.current → wrong_place d parsed ≡ false → is_class parsed ≡ true → option_map current_at o ≡ None
 unfolding wrong_place
 none_open d o form.Class same fits class = of_open o (ap (λ (p : Option OpenClass). is_some p) same ∙ fits)

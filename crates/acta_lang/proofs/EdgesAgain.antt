@@ -1,4 +1,4 @@
--- Start edges that stand in their order, each once, stay as they are.
+-- Start edges that are in canonical order, each once, are unchanged.
 use Rattle.std.proofs.Common.{◌≡◌, ℕ, ◌+◌, ◌*◌, ◌≤◌, ◌<◌, Bool, true, false, ◌||◌, ◌==◌, List, [], ◌∷◌, filter, flat_map, cond, slice_get, unwrap_or, inl, inr, refl, sym, ap, subst, ◌∙◌, true≢false, arith}
 use Rattle.std.specs.declared.cmp.Ordering.TheVariants.{Less, Equal, Greater}
 use Rattle.std.specs.Cmp.{nat_cmp_is}
@@ -15,7 +15,7 @@ use Rattle.acta_table.specs.Dependencies.{all_kinds, code_of}
 use Rattle.acta_table.specs.Starts.{both_of, each_start_edge_once, is_listed, rank_of, same_start_edge, start_edge_cmp}
 use Rattle.acta_table.proofs.StartOrder.{in_order}
 
--- the place of an edge in their order
+-- the rank of an edge in the canonical order
 key : StartEdge → ℕ
 key e = 2 * code_of e.kind + rank_of e.dependent
 
@@ -71,7 +71,7 @@ unfolding dependent_at
 dependent_back Starter = refl
 dependent_back Started = refl
 
--- edges that are one are equal
+-- edges that count as the same are equal
 same_is : (e f : StartEdge) → same_start_edge e f ≡ true → e ≡ f
 same_is e f h =
     let parts = and_parts (code_of e.kind == code_of f.kind) (rank_of e.dependent == rank_of f.dependent) h in

@@ -1,4 +1,4 @@
--- Examples: what the definitions make of some texts, with faults and without.
+-- Examples: the models of some texts, and the faults of others.
 use Rattle.std.specs.Fmt.{digits}
 use Rattle.std.specs.Prelude.{ℕ, List, [], ◌∷◌, ◌++◌, codes, replicate, Option, Some, None, Result, Ok, Err, ◌≡◌, refl, neg_ℤ, pos, true, false}
 use Rattle.acta_table.specs.declared.dep.Dep.{Dep}
@@ -68,7 +68,7 @@ unclosed : meant (text_of (codes "class a" ∷ codes "starts begin" ∷ [])) ≡
 unfolding meaning_behind extended not_ascii bad_word bad_name duplicate_name wrong_place bad_number too_many missing_end missing_part begin_kind_at_start heir_without_spawn bad_policy_kind
 unclosed = refl
 
--- a class that has said nothing
+-- a class without parts
 parsed_nothing : meant (text_of (codes "class a" ∷ codes "end" ∷ [])) ≡ fault 2 MissingPart
 unfolding meaning_behind extended not_ascii bad_word bad_name duplicate_name wrong_place bad_number too_many missing_end missing_part begin_kind_at_start heir_without_spawn bad_policy_kind
 parsed_nothing = refl
@@ -98,7 +98,7 @@ begin_edge_last : meant (text_of (codes "class a" ∷ codes "spawn starter BD st
 unfolding meaning_behind extended not_ascii bad_word bad_name duplicate_name wrong_place bad_number too_many missing_end missing_part begin_kind_at_start heir_without_spawn bad_policy_kind
 begin_edge_last = refl
 
--- and where the class goes on the kind counts
+-- and if a line follows, the kind counts
 begin_edge : meant (text_of (codes "class a" ∷ codes "spawn starter BD started" ∷ codes "end" ∷ [])) ≡ fault 2 BeginKindAtStart
 unfolding meaning_behind extended not_ascii bad_word bad_name duplicate_name wrong_place bad_number too_many missing_end missing_part begin_kind_at_start heir_without_spawn bad_policy_kind
 begin_edge = refl
@@ -113,7 +113,7 @@ unended : meant ((text_of (codes "class a" ∷ codes "starts begin" ∷ codes "m
 unfolding meaning_behind extended not_ascii bad_word bad_name duplicate_name wrong_place bad_number too_many missing_end missing_part begin_kind_at_start heir_without_spawn bad_policy_kind
 unended = refl
 
--- lines of a class stand in any order, with blanks and comments
+-- lines of a class in any order, with blanks and comments
 any_order : meant (text_of (codes "  class a# b" ∷ [] ∷ codes "commit keeps" ∷ codes "policy   refuse" ∷ codes "#" ∷ codes "delegation whole" ∷ codes "scope others # c" ∷ codes "may commit operate commit" ∷ codes "starts begin" ∷ codes "end" ∷ [])) ≡ Ok (only (plain (codes "a")))
 unfolding meaning_behind extended not_ascii bad_word bad_name duplicate_name wrong_place bad_number too_many missing_end missing_part begin_kind_at_start heir_without_spawn bad_policy_kind
 any_order = refl
@@ -128,7 +128,7 @@ lists_of_none : meant (text_of (codes "class a" ∷ codes "starts" ∷ codes "ma
 unfolding meaning_behind extended not_ascii bad_word bad_name duplicate_name wrong_place bad_number too_many missing_end missing_part begin_kind_at_start heir_without_spawn bad_policy_kind
 lists_of_none = refl
 
--- a permit is the bit 256, wherever it stands
+-- a permit is the bit 256, wherever its word is
 permits : meant (text_of (codes "class a" ∷ codes "starts begin" ∷ codes "may permit operate commit" ∷ codes "scope others" ∷ codes "policy refuse" ∷ codes "commit keeps" ∷ codes "delegation whole" ∷ codes "end" ∷ [])) ≡ Ok (only (record (plain (codes "a")) { may = 352 }))
 unfolding meaning_behind extended not_ascii bad_word bad_name duplicate_name wrong_place bad_number too_many missing_end missing_part begin_kind_at_start heir_without_spawn bad_policy_kind
 permits = refl
@@ -137,7 +137,7 @@ permits = refl
 permits_last : may_words 352 ≡ codes "operate" ∷ codes "commit" ∷ codes "permit" ∷ []
 permits_last = refl
 
--- edges stand by their kind, the starter first, each once
+-- edges are sorted by kind, the starter first, each once
 edges_once : meant (text_of (codes "class a" ∷ codes "split started WD starter" ∷ codes "split starter WD started" ∷ codes "split starter CD started" ∷ codes "split started WD starter" ∷ codes "starts begin" ∷ codes "may operate commit" ∷ codes "scope others" ∷ codes "policy refuse" ∷ codes "commit keeps" ∷ codes "delegation whole" ∷ codes "end" ∷ [])) ≡ Ok (only (record (plain (codes "a")) { split_edges = edge Cd Starter ∷ edge Wd Starter ∷ edge Wd Started ∷ [] }))
 unfolding meaning_behind extended not_ascii bad_word bad_name duplicate_name wrong_place bad_number too_many missing_end missing_part begin_kind_at_start heir_without_spawn bad_policy_kind
 edges_once = refl
@@ -152,12 +152,12 @@ least : meant (text_of (codes "object x register -0002147483648" ∷ codes "clas
 unfolding meaning_behind extended not_ascii bad_word bad_name duplicate_name wrong_place bad_number too_many missing_end missing_part begin_kind_at_start heir_without_spawn bad_policy_kind
 least = refl
 
--- nought may have a minus
+-- 0 may have a minus
 minus_nothing : meant (text_of (codes "object x counter -0" ∷ codes "class a" ∷ codes "starts begin" ∷ codes "may operate commit" ∷ codes "scope others" ∷ codes "policy refuse" ∷ codes "commit keeps" ∷ codes "delegation whole" ∷ codes "end" ∷ [])) ≡ Ok (with_one (Counter (pos 0)))
 unfolding meaning_behind extended not_ascii bad_word bad_name duplicate_name wrong_place bad_number too_many missing_end missing_part begin_kind_at_start heir_without_spawn bad_policy_kind
 minus_nothing = refl
 
--- one more than the greatest
+-- one more than the greatest value
 too_great : meant (text_of (codes "object x counter 2147483648" ∷ [])) ≡ fault 1 BadNumber
 unfolding meaning_behind extended not_ascii bad_word bad_name duplicate_name wrong_place bad_number too_many missing_end missing_part begin_kind_at_start heir_without_spawn bad_policy_kind
 too_great = refl
@@ -167,7 +167,7 @@ plus : meant (text_of (codes "object x counter +5" ∷ [])) ≡ fault 1 BadNumbe
 unfolding meaning_behind extended not_ascii bad_word bad_name duplicate_name wrong_place bad_number too_many missing_end missing_part begin_kind_at_start heir_without_spawn bad_policy_kind
 plus = refl
 
--- a minus alone is none
+-- a minus alone is not a number
 minus_alone : meant (text_of (codes "object x counter -" ∷ [])) ≡ fault 1 BadNumber
 unfolding meaning_behind extended not_ascii bad_word bad_name duplicate_name wrong_place bad_number too_many missing_end missing_part begin_kind_at_start heir_without_spawn bad_policy_kind
 minus_alone = refl
@@ -182,7 +182,7 @@ return : meant ((codes "class a" ++ 13 ∷ 10 ∷ [])) ≡ fault 1 NotAscii
 unfolding meaning_behind extended not_ascii bad_word bad_name duplicate_name wrong_place bad_number too_many missing_end missing_part begin_kind_at_start heir_without_spawn bad_policy_kind
 return = refl
 
--- a tab stands between words
+-- a tab separates words
 tab : meant ((codes "object" ++ 9 ∷ codes "x" ++ 9 ∷ codes "list")) ≡ fault 1 BadWord
 unfolding meaning_behind extended not_ascii bad_word bad_name duplicate_name wrong_place bad_number too_many missing_end missing_part begin_kind_at_start heir_without_spawn bad_policy_kind
 tab = refl
@@ -192,27 +192,27 @@ set_with_value : meant (text_of (codes "object x set 0" ∷ [])) ≡ fault 1 Bad
 unfolding meaning_behind extended not_ascii bad_word bad_name duplicate_name wrong_place bad_number too_many missing_end missing_part begin_kind_at_start heir_without_spawn bad_policy_kind
 set_with_value = refl
 
--- a kind that there is not is no word
+-- an unknown kind is not a word
 unknown_kind : meant (text_of (codes "class a" ∷ codes "policy depend XX" ∷ codes "end" ∷ [])) ≡ fault 2 BadWord
 unfolding meaning_behind extended not_ascii bad_word bad_name duplicate_name wrong_place bad_number too_many missing_end missing_part begin_kind_at_start heir_without_spawn bad_policy_kind
 unknown_kind = refl
 
--- depending by nothing fits the form, and is no policy
+-- a policy `depend` without kinds fits the form, and is a bad policy
 no_kind : meant (text_of (codes "class a" ∷ codes "policy depend" ∷ codes "end" ∷ [])) ≡ fault 2 BadPolicyKind
 unfolding meaning_behind extended not_ascii bad_word bad_name duplicate_name wrong_place bad_number too_many missing_end missing_part begin_kind_at_start heir_without_spawn bad_policy_kind
 no_kind = refl
 
--- a kind that an earlier end can break is no policy
+-- a policy may not form edges of a kind that an earlier end can break
 strong_kind : meant (text_of (codes "class a" ∷ codes "policy depend CD SCD" ∷ codes "end" ∷ [])) ≡ fault 2 BadPolicyKind
 unfolding meaning_behind extended not_ascii bad_word bad_name duplicate_name wrong_place bad_number too_many missing_end missing_part begin_kind_at_start heir_without_spawn bad_policy_kind
 strong_kind = refl
 
--- a second policy is in the wrong place, even where it is bad
+-- a second policy is in the wrong place, even if it is bad
 second_bad_policy : meant (text_of (codes "class a" ∷ codes "policy refuse" ∷ codes "policy depend SCD" ∷ codes "end" ∷ [])) ≡ fault 3 WrongPlace
 unfolding meaning_behind extended not_ascii bad_word bad_name duplicate_name wrong_place bad_number too_many missing_end missing_part begin_kind_at_start heir_without_spawn bad_policy_kind
 second_bad_policy = refl
 
--- a name that is none counts before its place
+-- an invalid name counts before its place
 bad_name_first : meant (text_of (codes "class a" ∷ codes "object 1x set" ∷ codes "end" ∷ [])) ≡ fault 2 BadName
 unfolding meaning_behind extended not_ascii bad_word bad_name duplicate_name wrong_place bad_number too_many missing_end missing_part begin_kind_at_start heir_without_spawn bad_policy_kind
 bad_name_first = refl
@@ -222,7 +222,7 @@ long_name : meant (text_of (codes "object nnnnnnnnnnnnnnnnnnnnnnnnnnnnnnnnn set"
 unfolding meaning_behind extended not_ascii bad_word bad_name duplicate_name wrong_place bad_number too_many missing_end missing_part begin_kind_at_start heir_without_spawn bad_policy_kind
 long_name = refl
 
--- a name that another has counts before the place, also that of the open class
+-- a name that is already taken, also by the open class, counts before the place
 duplicate_inside : meant (text_of (codes "class a" ∷ codes "class a" ∷ [])) ≡ fault 2 DuplicateName
 unfolding meaning_behind extended not_ascii bad_word bad_name duplicate_name wrong_place bad_number too_many missing_end missing_part begin_kind_at_start heir_without_spawn bad_policy_kind
 duplicate_inside = refl
@@ -247,12 +247,12 @@ part_before_heir : meant (text_of (codes "class a" ∷ codes "starts begin" ∷ 
 unfolding meaning_behind extended not_ascii bad_word bad_name duplicate_name wrong_place bad_number too_many missing_end missing_part begin_kind_at_start heir_without_spawn bad_policy_kind
 part_before_heir = refl
 
--- a class that begins has no parent to leave to
+-- a class that starts by begin has no parent to inherit
 heirless : meant (text_of (codes "class a" ∷ codes "starts begin" ∷ codes "may operate commit" ∷ codes "scope others" ∷ codes "policy refuse" ∷ codes "commit toparent" ∷ codes "delegation whole" ∷ codes "end" ∷ [])) ≡ fault 8 HeirWithoutSpawn
 unfolding meaning_behind extended not_ascii bad_word bad_name duplicate_name wrong_place bad_number too_many missing_end missing_part begin_kind_at_start heir_without_spawn bad_policy_kind
 heirless = refl
 
--- the first line counts, whatever is lower later
+-- the first faulty line counts, even if a later one has a lower code
 first_line : meant (text_of (codes "object x counter z" ∷ codes "bogus" ∷ [])) ≡ fault 1 BadNumber
 unfolding meaning_behind extended not_ascii bad_word bad_name duplicate_name wrong_place bad_number too_many missing_end missing_part begin_kind_at_start heir_without_spawn bad_policy_kind
 first_line = refl
@@ -297,7 +297,7 @@ nested_again : meant (canonical nested) ≡ Ok nested
 unfolding meaning_behind extended not_ascii bad_word bad_name duplicate_name wrong_place bad_number too_many missing_end missing_part begin_kind_at_start heir_without_spawn bad_policy_kind canonical digits
 nested_again = refl
 
--- as many objects, and as many classes, as there may be
+-- the greatest numbers of objects and of classes
 abbrev many : Draft (Unit {0})
 many = record {
   objects = replicate MOST_OBJECTS (record { name = codes "o"; kind = Elements });
@@ -313,7 +313,7 @@ one_object_less : code_at (record many { objects = replicate 255 (record { name 
 unfolding meaning_behind extended not_ascii bad_word bad_name duplicate_name wrong_place bad_number too_many missing_end missing_part begin_kind_at_start heir_without_spawn bad_policy_kind
 one_object_less = refl
 
--- a number that is none counts before the number of objects, which counts before an open class at the end
+-- an invalid number counts before the number of objects, which counts before an open class at the end
 bad_object_more : code_at many false (codes "object x register y") ≡ Some BadNumber
 unfolding meaning_behind extended not_ascii bad_word bad_name duplicate_name wrong_place bad_number too_many missing_end missing_part begin_kind_at_start heir_without_spawn bad_policy_kind
 bad_object_more = refl
@@ -324,7 +324,7 @@ one_class_more = refl
 
 -- ---- where a text is wrong
 
--- the place of the word at fault, what is expected there, the earlier line and the class that is open
+-- the place of the word at fault, what is expected there, the earlier line and the open class
 abbrev Reported : Type 0
 Reported = Option (Option ℕ × (Expected × (Option ℕ × Option ClassAt)))
 
@@ -335,7 +335,7 @@ reported_of (Some d) = Some (d.place, (d.expected, (d.earlier, d.class)))
 abbrev reported : List (List ℕ) → Reported
 reported lines = reported_of (diagnosed (Unit {0}) (text_of lines))
 
--- the kind of an object, a word too many, and a word that lacks
+-- the kind of an object, a surplus word, and a missing word
 no_object_kind : reported (codes "object x list" ∷ []) ≡ Some (Some 2, (want.ObjectKind, (None, None)))
 unfolding meaning_behind extended not_ascii bad_word bad_name duplicate_name wrong_place bad_number too_many missing_end missing_part begin_kind_at_start heir_without_spawn bad_policy_kind
 no_object_kind = refl
@@ -353,13 +353,13 @@ named_before : reported (codes "object y set" ∷ codes "# x" ∷ codes "object 
 unfolding meaning_behind extended not_ascii bad_word bad_name duplicate_name wrong_place bad_number too_many missing_end missing_part begin_kind_at_start heir_without_spawn bad_policy_kind
 named_before = refl
 
--- the line that has said the part, of the class that is open
+-- the line of the part, of the open class
 parsed_before : reported (codes "class a" ∷ codes "may" ∷ codes "starts begin" ∷ codes "starts" ∷ [])
     ≡ Some (Some 0, (want.Once, (Some 3, Some (record { name = codes "a"; line = 1; parts = record no_lines { starts = Some 3; may = Some 2 } }))))
 unfolding meaning_behind extended not_ascii bad_word bad_name duplicate_name wrong_place bad_number too_many missing_end missing_part begin_kind_at_start heir_without_spawn bad_policy_kind
 parsed_before = refl
 
--- a class that ends without a part, behind a class that is closed
+-- a class that ends without a part, after a class that is closed
 lacks_a_part : reported (codes "class a" ∷ codes "starts begin" ∷ codes "may operate commit" ∷ codes "scope others" ∷ codes "policy refuse" ∷ codes "commit keeps" ∷ codes "delegation whole" ∷ codes "end" ∷ codes "class b" ∷ codes "scope others" ∷ codes "end" ∷ [])
     ≡ Some (Some 0, (want.AllParts, (None, Some (record { name = codes "b"; line = 9; parts = record no_lines { scope = Some 10 } }))))
 unfolding meaning_behind extended not_ascii bad_word bad_name duplicate_name wrong_place bad_number too_many missing_end missing_part begin_kind_at_start heir_without_spawn bad_policy_kind

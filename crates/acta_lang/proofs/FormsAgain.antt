@@ -1,4 +1,4 @@
--- The words of each line of a canonical text are of the form that they say.
+-- The words of each line of a canonical text have the form for which they were written.
 use Rattle.std.proofs.Common.{◌≡◌, ℕ, ◌<◌, ◌^◌, Bool, true, false, ◌==◌, [], ◌∷◌, codes, Some, option_map, option_and_then, unwrap_or, pos, negsuc, ℤ, refl, sym, ap, true≢false, arith}
 use Rattle.std.specs.Fmt.{signed_decimal}
 use Rattle.std.proofs.lemmas.Bool.{agree_below_at, eqb-true}

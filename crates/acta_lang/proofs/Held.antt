@@ -1,4 +1,4 @@
--- What the code holds, and the draft that it stands for.
+-- The code's state, and the draft that it stands for.
 use Rattle.std.proofs.Common.{◌≡◌, ℕ, Bool, true, false, ◌||◌, ◌&&◌, not, ◌==◌, List, [], ◌∷◌, ◌++◌, map, length, Option, Some, None, refl, sym, ap, ◌∙◌, Bor, true≢false, arith, length-append}
 use Rattle.std.specs.List.{list_any}
 use Rattle.std.specs.Map.{keys_of}
@@ -16,7 +16,7 @@ use Rattle.acta_lang.specs.Drafts.{Draft, OpenClass, closed, extended, has_part,
 use Rattle.acta_lang.specs.Faults.{is_object, is_class, is_end, missing_part, wrong_place}
 use Rattle.acta_lang.specs.inside.Abstraction.{object_shown, closed_shown}
 
--- the names of the objects, and of the classes that are closed
+-- the names of the objects, and of the closed classes
 pub object_names-abstraction : (A : Type 0) (es : List (Bor (List ℕ) × ObjectDraft)) → map (λ o. o.name) (map (object_shown {A = A}) es) ≡ map (λ k. k.now) (keys_of es)
 object_names-abstraction A [] = refl
 object_names-abstraction A (e ∷ es) = ap (λ names. e.0.now ∷ names) (object_names-abstraction A es)
@@ -29,7 +29,7 @@ in_one : (name : List ℕ) (o : Option OpenClass) → list_any (bytes_eq name) (
 in_one name None = refl
 in_one name (Some c) = or-false (bytes_eq name c.name)
 
--- a name is among those of the classes where a closed one has it, or the open one
+-- a name is one of a class if a closed class has it, or the open one
 pub among_classes : {A : Type 0} (name : List ℕ) (es : List (Bor (List ℕ) × ClosedDraft A)) (o : Option OpenClass)
     → is_word_among (map (λ c. c.name) (map (closed_shown {A = A}) es) ++ option_map_or (λ c. c.name ∷ []) o []) name
     ≡ (is_word_among (map (λ k. k.now) (keys_of es)) name || option_map_or (λ c. bytes_eq name c.name) o false)
@@ -37,7 +37,7 @@ among_classes {A = A} name es o =
     list_any-append (bytes_eq name) (map (λ c. c.name) (map (closed_shown {A = A}) es)) (option_map_or (λ c. c.name ∷ []) o [])
     ∙ (λ i. list_any (bytes_eq name) (closed_names-abstraction es i) || in_one name o i)
 
--- inside a class, what is no object and no class is in the wrong place where it has been said
+-- inside a class, a line that declares no object or class is in the wrong place if its part is given already
 pub parsed_inside : {A : Type 0} (parsed : Form) (d : Draft A) (c : OpenClass) → d.current ≡ Some c → is_object parsed ≡ false → is_class parsed ≡ false → has_part parsed c ≡ wrong_place d parsed
 unfolding wrong_place
 parsed_inside form.Blank d c is o k = refl
@@ -78,7 +78,7 @@ end_is (form.Spawn s) h = absurd (true≢false (sym h))
 end_is (form.Split s) h = absurd (true≢false (sym h))
 end_is form.Unknown h = absurd (true≢false (sym h))
 
--- where a class ends, only it can lack a part
+-- when a class ends, only that class can lack a part
 pub end_inside : {A : Type 0} (is_last : Bool) (words : List (List ℕ)) (parsed : Form) (d : Draft A) (c : OpenClass) → is_end parsed ≡ true → d.current ≡ Some c → not (has_all_parts c) ≡ missing_part is_last d (extended d words parsed) parsed
 unfolding missing_part extended
 end_inside is_last words parsed d c ends is =

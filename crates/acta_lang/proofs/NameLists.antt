@@ -11,7 +11,7 @@ found : {V : Type 0} (hit : Bool) (v : V) (o : Option V) → is_some (cond hit (
 found true v o = refl
 found false v o = refl
 
--- something is found under a name where the name is among the names
+-- a name is found if it is among the names
 pub is_found : {V : Type 0} (test : List ℕ → Bool) (es : List (Bor (List ℕ) × V)) → is_some (lookup (λ k. test k.now) es) ≡ list_any test (map (λ k. k.now) (keys_of es))
 is_found test [] = refl
 is_found test (e ∷ es) = found (test e.0.now) e.1 (lookup (λ k. test k.now) es) ∙ ap (λ b. test e.0.now || b) (is_found test es)
@@ -21,14 +21,14 @@ placed : {V : Type 0} (hit : Bool) (e new : Bor (List ℕ) × V) (other es put :
 placed true e new other es put rest h step = absurd (true≢false h)
 placed false e new other es put rest h step = λ i. e ∷ step h i
 
--- a new name goes behind the others
+-- a new name goes after the others
 pub goes_last : {V : Type 0} (name : Bor (List ℕ)) (v : V) (es : List (Bor (List ℕ) × V)) → list_any (bytes_eq name.now) (map (λ k. k.now) (keys_of es)) ≡ false
     → insert_entry (λ k l. bytes_eq k.now l.now) es name v ≡ es ++ (name, v) ∷ []
 goes_last name v [] absent = refl
 goes_last name v (e ∷ es) absent =
     placed (bytes_eq name.now e.0.now) e (name, v) ((e.0, v) ∷ es) es (insert_entry (λ k l. bytes_eq k.now l.now) es name v) (list_any (bytes_eq name.now) (map (λ k. k.now) (keys_of es))) absent (goes_last name v es)
 
--- the line of what is found under a name is that of the first of this name
+-- the line found under a name is that of the first declaration with this name
 pub line_found : {V : Type 0} (name : List ℕ) (line : V → ℕ) (es : List (Bor (List ℕ) × V)) → option_map line (lookup (λ k. bytes_eq name k.now) es) ≡ line_of name (map (λ e. record { name = e.0.now; line = line e.1 }) es)
 line_found name line [] = refl
 line_found {V} name line (e ∷ es) = of_test (bytes_eq name e.0.now) (line_found name line es)

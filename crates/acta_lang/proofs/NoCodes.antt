@@ -1,4 +1,4 @@
--- What holds of a line without a code.
+-- Properties of a line without a code.
 use Rattle.std.proofs.Common.{◌≡◌, ℕ, Bool, true, false, not, ◌&&◌, ◌||◌, nat_le, List, [], ◌∷◌, fold, length, Option, Some, None, refl}
 use Rattle.std.specs.Option.{option_or, option_map_or}
 use Rattle.acta_table.specs.Faults.{is_name, lacks_parents}
@@ -31,7 +31,7 @@ pub record HasNoCode {A : Type 0} (d : Draft A) (is_last : Bool) (line : List �
   pub heir : (is_end parsed && option_map_or (λ c. lacks_parents (closed {A = A} c)) d.current false) ≡ false
   pub policy : bad_policy_kind parsed ≡ false
 
--- where no test of a line passes, it has no code, and the other way round
+-- a line has no code exactly if it passes no test
 pub no_test : {A : Type 0} (d : Draft A) (is_last : Bool) (line : List ℕ) (words : List (List ℕ)) (parsed : Form) → lowest_of d (extended d words parsed) is_last line words parsed ≡ None → HasNoCode d is_last line words parsed
 unfolding bad_name duplicate_name too_many heir_without_spawn
 no_test d is_last line words parsed none =
@@ -60,7 +60,7 @@ no_test d is_last line words parsed none =
       policy = no_code _ BadPolicyKind policy.1;
     }
 
--- a line at which no test passes has no code
+-- a line that passes no test has no code
 pub clear : {A : Type 0} (d behind : Draft A) (is_last : Bool) (line : List ℕ) (words : List (List ℕ)) (parsed : Form) → not_ascii line ≡ false → bad_word parsed ≡ false → bad_name words parsed ≡ false
     → duplicate_name d words parsed ≡ false → wrong_place d parsed ≡ false → bad_number words parsed ≡ false → too_many d parsed ≡ false → missing_end is_last behind ≡ false
     → missing_part is_last d behind parsed ≡ false → begin_kind_at_start parsed ≡ false → heir_without_spawn d parsed ≡ false → bad_policy_kind parsed ≡ false

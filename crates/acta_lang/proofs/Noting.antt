@@ -1,4 +1,4 @@
--- What the code notes of the lines that it reads is what they say.
+-- The code's notes agree with the lines that it has read.
 use Rattle.std.proofs.Common.{◌≡◌, ℕ, suc, ◌+◌, ◌≤◌, ◌<◌, Bool, true, false, cond, ◌&&◌, List, [], ◌∷◌, ◌++◌, length, refl, sym, ap, subst, ◌∙◌, arith}
 use Rattle.std.specs.Prelude.{Option, Some, None, option_map, unwrap_or}
 use Rattle.std.specs.List.{position_from}
@@ -41,7 +41,7 @@ last-within test (y ∷ ys) n e = of_rest (last_line test ys) (λ m is. last-wit
     of_rest None within true e = let same = some-is 1 n e in omega (arith, same)
     of_rest None within false e = absurd cc
 
--- behind a line that is there, and behind one that is yet to come
+-- the last line after line k that passes the test, of these lines and one more
 behind-next : (test : List ℕ → Bool) (k : ℕ) (xs : List (List ℕ)) (x : List ℕ) → k ≤ length xs → behind k (last_line test (xs ++ x ∷ [])) ≡ cond (test x) (Some (length xs + 1)) (behind k (last_line test xs))
 behind-next test k xs x le = ap (behind k) (last-push test xs x) ∙ of_test (test x)
   where
@@ -152,7 +152,7 @@ module _ (before : List (List ℕ)) (line : List ℕ) (parsed : Form) (is : form
       })
 
 module _ (before : List (List ℕ)) (line : List ℕ) (x : Noted) (h : IsNoted before x) where
-  -- a line of an object, which says nothing of a class
+  -- a line of an object, which has no part of a class
   object-noted : (parsed : Form) → form_of (words_of line) ≡ parsed → is_object parsed ≡ true → is_class parsed ≡ false → ((c : ClassAt) → parsed_more parsed (length before + 1) c ≡ c)
       → IsNoted (before ++ line ∷ []) (object_noted x (name_in (words_of line)) (length before + 1))
   object-noted parsed is holds isnt same = record {

@@ -1,4 +1,4 @@
--- A text that begins with a word that is none of the language, `ACTA` and perhaps more, means no model.
+-- A text whose first word is not of the language, `ACTA` and possibly more, is not a model.
 use Rattle.std.proofs.Common.{◌≡◌, ℕ, ◌==◌, Bool, true, false, cond, List, [], ◌∷◌, filter, length, not, codes, Ok, true≢false, arith, refl, sym, ap, ◌∙◌}
 use Rattle.std.specs.List.{onto_first, slice_split, before_first}
 use Rattle.std.proofs.lemmas.List.Splits.{slice_split-cons_no}
@@ -22,7 +22,7 @@ use Rattle.acta_lang.proofs.Sound.{judged_ok}
 abbrev begun : List ℕ → List ℕ
 begun bytes = 65 ∷ 67 ∷ 84 ∷ 65 ∷ bytes
 
--- a list of lists, of which the first begins with the four bytes
+-- the lists, with the four bytes before the first
 abbrev onto : List (List ℕ) → List (List ℕ)
 onto lists = onto_first 65 (onto_first 67 (onto_first 84 (onto_first 65 lists)))
 
@@ -83,7 +83,7 @@ no_form line =
         ∙ skip (split_form rest) _ _ (d 115 (codes "plit") refl)
         ∙ skip (end_form rest) form.Unknown _ (d 101 (codes "nd") refl)
 
--- so that a text that begins so means no model
+-- so that a text that begins so is not a model
 pub no_meaning : {A : Type 0} (bytes : List ℕ) (m : Parts A) → meaning (begun bytes) ≡ Ok m → true ≡ false
 unfolding meaning_behind bad_word
 no_meaning {A} bytes m means = of_lines (lines_left bytes) means

@@ -1,4 +1,4 @@
--- The canonical text of a model means the model: its lines are read one after another.
+-- The canonical text of a model parses to the model: its lines are read one after another.
 use Rattle.std.proofs.Common.{◌≡◌, ℕ, ◌+◌, ◌≤◌, ◌<◌, Bool, true, false, not, ◌&&◌, ◌||◌, ◌==◌, nat_lt, List, [], ◌∷◌, ◌++◌, map, flat_map, codes, drop, suc, length, Option, Some, None, Result, Ok, is_none, refl, sym, ap, ◌∙◌, true≢false, arith, length-append}
 use Rattle.std.specs.Fmt.{signed_decimal}
 use Rattle.std.specs.List.{All, AllByRecursion, list_all, list_any}
@@ -52,7 +52,7 @@ use Rattle.acta_lang.proofs.Sound.{new_from_apart}
 use Rattle.acta_lang.proofs.Tidy.{are_words, is_tidy_word, line_ascii, one_line, tidy_kept, tidy_name, tidy_number}
 use Rattle.acta_lang.proofs.Turns.{behind_is_from, meaning_from}
 
--- one line, without a code: what stands behind it is read
+-- one line without a code: the lines after it are read
 step : {A : Type 0} (n : ℕ) (d : Draft A) (words : List (List ℕ)) (parsed : Form) (lines : List (List ℕ)) (is_last : Bool) → (length lines == 0) ≡ is_last → list_all is_tidy_word words ≡ true → form_of words ≡ parsed
     → lowest_of d (extended d words parsed) is_last (line_of words) words parsed ≡ None
     → meaning_from n d (line_of words ∷ lines) ≡ meaning_from (n + 1) (extended d words parsed) lines
@@ -73,7 +73,7 @@ more_behind (x ∷ xs) ys more = some_behind [] x (xs ++ ys)
 among_none : {A : Type 0} (cs : List (Class A)) (name : List ℕ) → is_word_among (map (λ c. c.name) cs) name ≡ false → is_word_among (map (λ c. c.name) cs ++ []) name ≡ false
 among_none {A = A} cs name new = ap (λ names. is_word_among names name) (append-nil (map (λ (c : Class A). c.name) cs)) ∙ new
 
--- what objects and classes declare, and the class that is open
+-- the declarations of objects and classes, and the open class
 abbrev at : {A : Type 0} → List (Object A) → List (Class A) → Option OpenClass → Draft A
 at os cs current = record { objects = os; classes = cs; current = current }
 
@@ -107,7 +107,7 @@ object_line {A = A} n os name kind.Elements lines more fits named new room =
     step n d words form.Elements lines false more tidy refl
     (clear d (extended d words form.Elements) false (line_of words) words form.Elements (line_ascii words tidy) refl (ap not named) (or_from _ _ new refl) refl refl (or_from _ _ (lt-leb MOST_OBJECTS (length os) room) refl) refl refl refl refl refl)
 
--- the lines of all objects, with a line behind them
+-- the lines of all objects, with a line after them
 objects_again : {A : Type 0} (n : ℕ) (os todo : List (Object A)) (next : List ℕ) (rest : List (List ℕ)) (r : Result (Parts A) AsmFault) → AllByRecursion (λ o. HasFirst o.kind) todo → list_all is_name (map (λ o. o.name) todo) ≡ true
     → has_twice (map (λ o. o.name) (os ++ todo)) ≡ false → length (os ++ todo) ≤ MOST_OBJECTS → ((k : ℕ) → meaning_from k (at (os ++ todo) [] None) (next ∷ rest) ≡ r)
     → meaning_from n (at os [] None) (map line_of (map object_words todo) ++ next ∷ rest) ≡ r
@@ -120,7 +120,7 @@ objects_again {A = A} n os (o ∷ todo) next rest r fits named apart few then =
     ∙ objects_again (n + 1) (os ++ o ∷ []) todo next rest r fits.1 names.1 (ap (λ (l : List (Object A)). has_twice (map (λ o. o.name) l)) together ∙ apart) (omega (arith, few, ap length together))
     (λ k. ap (λ (l : List (Object A)). meaning_from k (at l [] None) (next ∷ rest)) together ∙ then k)
 
--- what a checked class is
+-- a checked class
 pub record IsWhole {A : Type 0} (c : Class A) : Type 0 where
   pub named : is_name c.name ≡ true
   pub sets : HasSets c
@@ -180,7 +180,7 @@ split_tidy : (k : Dep) (d : Dependent) → list_all is_tidy_word (edge_words (co
 split_tidy k Starter = dep_tidy k
 split_tidy k Started = dep_tidy k
 
--- the class, open, with all said but its edges, of which it has said these
+-- the open class, with all its parts, and these edges of it
 abbrev parsed_but : {A : Type 0} → Class A → List StartEdge → List StartEdge → OpenClass
 parsed_but c spawns splits = record {
   name = c.name;
@@ -354,7 +354,7 @@ lines_all : (lines : List (List ℕ)) → (length lines == 0) ≡ false → AllB
 lines_all [] some ones = absurd (true≢false some)
 lines_all (line ∷ lines) some ones = lines_again line lines ones
 
--- what is true of a checked model's objects and classes
+-- properties of a checked model's objects and classes
 model_again : {A : Type 0} (os : List (Object A)) (cs : List (Class A)) → (length cs == 0) ≡ false → AllByRecursion (λ o. HasFirst o.kind) os → list_all is_name (map (λ o. o.name) os) ≡ true → has_twice (map (λ o. o.name) os) ≡ false
     → length os ≤ MOST_OBJECTS → AllByRecursion IsWhole cs → has_twice (map (λ c. c.name) cs) ≡ false → length cs ≤ MOST_CLASSES
     → meaning (canonical (record { objects = os; classes = cs })) ≡ Ok (record { objects = os; classes = cs })
@@ -401,7 +401,7 @@ each_whole {A = A} (c ∷ cs) named sets begins heirs policies =
       each_whole cs names.1 (λ k d within. sets (suc k) d (omega arith)) begin.1 heir.1 policy.1,
     )
 
--- the canonical text of a model means the model
+-- the canonical text of a model parses to the model
 pub read_again : {A : Type 0} (m : Parts A) → AreOfModel m → meaning (canonical m) ≡ Ok m
 read_again {A = A} m known =
     let policies = or_none _ (fault_if (list_any (λ (k : Class A). is_bad_policy k.policy) m.classes) fault.BadPolicyKind) known.faultless in

@@ -1,4 +1,4 @@
--- What lines without a fault declare is free of the faults of models: each line keeps it so.
+-- The declarations of lines without a fault are free of the faults of models: each line preserves this.
 use Rattle.std.proofs.Common.{◌≡◌, ℕ, ◌+◌, ◌≤◌, ◌<◌, Bool, true, false, not, ◌&&◌, ◌||◌, ◌==◌, nat_lt, nat_le, inl, inr, Result, Ok, List, [], ◌∷◌, ◌++◌, map, filter, flat_map, fold, length, Option, Some, None, is_some, unwrap_or, option_map, refl, sym, ap, subst, ◌∙◌, true≢false, arith, length-append, cond}
 use Rattle.std.specs.List.{list_any, list_all}
 use Rattle.std.specs.Option.{option_or, option_map_or}
@@ -36,18 +36,18 @@ use Rattle.acta_lang.specs.Meaning.{judged, meaning}
 use Rattle.acta_lang.proofs.NoCodes.{HasNoCode, no_test}
 use Rattle.acta_lang.proofs.Turns.{meaning_from, behind_is_from}
 
--- a class that is open: no edge at a start is of a begin kind, and its policy is none that a model can't have
+-- an open class: no edge at a start is of a begin kind, and its policy is allowed in a model
 pub record IsFaultlessClass (c : OpenClass) : Type 0 where
   pub spawns : has_begin_edge c.spawn_edges ≡ false
   pub splits : has_begin_edge c.split_edges ≡ false
   pub policy : option_map_or is_bad_policy c.policy false ≡ false
 
--- the class that is open, if one is, and there is room for it
+-- the open class, if there is one, and room for it
 abbrev pub IsFaultlessCurrent : ℕ → Option OpenClass → Type 0
 IsFaultlessCurrent n None = Unit {0}
 IsFaultlessCurrent n (Some c) = (n < MOST_CLASSES) × IsFaultlessClass c
 
--- what some lines declare, free of the faults of models but for the want of a class
+-- the declarations of some lines, without faults of models, except that a class may be missing
 pub record IsFaultless {A : Type 0} (d : Draft A) : Type 0 where
   pub objects_apart : has_twice (object_names d) ≡ false
   pub classes_apart : has_twice (class_names d) ≡ false
@@ -67,7 +67,7 @@ bytes_eq-sym : (xs ys : List ℕ) → bytes_eq xs ys ≡ false → bytes_eq ys x
 bytes_eq-sym xs ys h =
     false_from_ne_true (bytes_eq ys xs) (λ e. true≢false (sym ((bytes_eq-Decides xs ys).1 (sym ((bytes_eq-Decides ys xs).0 e))) ∙ h))
 
--- a name that is not among the others goes behind them
+-- a name that is not among the others goes after them
 apart_with : (names : List (List ℕ)) (name : List ℕ) → has_twice names ≡ false → is_word_among names name ≡ false → has_twice (names ++ name ∷ []) ≡ false
 apart_with [] name apart new = refl
 apart_with (first ∷ names) name apart new =
@@ -77,7 +77,7 @@ apart_with (first ∷ names) name apart new =
     (list_any-append (bytes_eq first) names (name ∷ []) ∙ or_from _ _ parts.0 (or_from _ _ (bytes_eq-sym name first others.0) refl))
     (apart_with names name parts.1 others.1)
 
--- and one that stands behind others is not among them
+-- an item after others is not among them
 pub new_from_apart : (names : List (List ℕ)) (name : List ℕ) (more : List (List ℕ)) → has_twice (names ++ name ∷ more) ≡ false → is_word_among names name ≡ false
 new_from_apart [] name more apart = refl
 new_from_apart (first ∷ names) name more apart =
@@ -199,7 +199,7 @@ end_keeps {A = A} os cs (Some c) heirs h =
       current = tt;
     }
 
--- a class that says something more
+-- a class with one more part
 parsed_keeps : {A : Type 0} (f : OpenClass → OpenClass) → ((c : OpenClass) → (f c).name ≡ c.name) → ((c : OpenClass) → IsFaultlessClass c → IsFaultlessClass (f c))
     → (os : List (Object A)) (cs : List (Class A)) (o : Option OpenClass)
     → IsFaultless (record { objects = os; classes = cs; current = o }) → IsFaultless (record { objects = os; classes = cs; current = option_map f o })
@@ -219,7 +219,7 @@ parsed_keeps {A = A} f named keeps os cs (Some c) h =
       current = (h.current.0, keeps c h.current.1);
     }
 
--- a line without a code keeps it so
+-- a line without a code preserves it
 pub keeps : {A : Type 0} (d : Draft A) (is_last : Bool) (line : List ℕ) (words : List (List ℕ)) (parsed : Form) → HasNoCode d is_last line words parsed → IsFaultless d → IsFaultless (extended d words parsed)
 unfolding extended wrong_place begin_kind_at_start bad_policy_kind
 keeps d is_last line words form.Blank clean h = parsed_keeps (λ c. c) (λ c. refl) (λ c k. k) d.objects d.classes d.current h
@@ -253,7 +253,7 @@ nothing_faultless = record {
   current = tt;
 }
 
--- the name of the class that is open is that of no class that is closed
+-- no closed class has the name of the open class
 new_current : {A : Type 0} (os : List (Object A)) (cs : List (Class A)) (o : Option OpenClass) → has_twice (map (λ c. c.name) cs ++ option_map_or (λ c. c.name ∷ []) o []) ≡ false
     → option_map_or (λ class. is_word_among (map (λ c. c.name) cs) class.name) o false ≡ false
 new_current os cs None apart = refl
@@ -262,7 +262,7 @@ new_current {A = A} os cs (Some c) apart = new_from_apart (map (λ (c : Class A)
 pub current_is_new : {A : Type 0} (d : Draft A) → IsFaultless d → option_map_or (λ class. is_word_among (map (λ c. c.name) d.classes) class.name) d.current false ≡ false
 current_is_new d h = new_current d.objects d.classes d.current h.classes_apart
 
--- a class list that is empty fails the last line
+-- an empty list of classes fails at the last line
 some_class : (is_empty other : Bool) → (other || true && is_empty) ≡ false → is_empty ≡ false
 some_class is_empty other h = (or_parts other (true && is_empty) h).1
 
@@ -270,7 +270,7 @@ named_once : {A : Type 0} (cs : List (Class A)) (o : Option OpenClass) → is_so
 named_once cs (Some c) none = absurd (true≢false none)
 named_once {A = A} cs None none = append-nil (map (λ (c : Class A). c.name) cs)
 
--- behind the last line, all that is declared is free of the faults of models
+-- after the last line, the declarations are free of the faults of models
 pub sound_end : {A : Type 0} (d : Draft A) → IsFaultless d → is_some d.current ≡ false → (length d.classes == 0) ≡ false → lowest_fault (parts_of d) ≡ None
 sound_end d h closed some =
     let names = named_once d.classes d.current closed in
@@ -294,7 +294,7 @@ judged_ok n (Some code) rest m h = absurd (cc)
 ok_same : {X : Type 0} (m k : X) (r : Result X AsmFault) → r ≡ Ok m → r ≡ Ok k → m ≡ k
 ok_same m k r h j = cc
 
--- what lines mean, behind what is faultless, is free of the faults of models
+-- the declarations of lines, after faultless ones, are free of the faults of models
 pub sound_from : {A : Type 0} (n : ℕ) (d : Draft A) (line : List ℕ) (lines : List (List ℕ)) (m : Parts A) → IsFaultless d → meaning_from n d (line ∷ lines) ≡ Ok m → lowest_fault m ≡ None
 unfolding meaning_from missing_end missing_part
 sound_from n d line [] m h means =
@@ -312,7 +312,7 @@ sound_from n d line (next ∷ lines) m h means =
     let parts = judged_ok n (code_at d (length (next ∷ lines) == 0) line) (meaning_from (n + 1) behind (next ∷ lines)) m means in
     sound_from (n + 1) behind next lines m (keeps d (length (next ∷ lines) == 0) line words parsed (no_test d (length (next ∷ lines) == 0) line words parsed parts.0) h) parts.1
 
--- so is what a text means
+-- so is the model of a text
 pub is_sound : {A : Type 0} (text : List ℕ) (m : Parts A) → meaning text ≡ Ok m → lowest_fault m ≡ None
 is_sound text m means =
     let first = first_line text in

@@ -1,4 +1,4 @@
--- Words that lines of a canonical text are made of: their lines are printable, and are split into them again.
+-- The words of lines of a canonical text: the lines are printable, and are split into the same words again.
 use Rattle.std.proofs.Common.{◌≡◌, ℕ, suc, ◌≤◌, ◌<◌, Bool, true, false, not, ◌&&◌, ◌||◌, ◌==◌, nat_le, List, [], ◌∷◌, map, filter, length, decimal, cond, inl, inr, pos, negsuc, ℤ, refl, sym, ap, ◌∙◌, true≢false, arith}
 use Rattle.std.specs.Char.{is_ascii_alphanumeric}
 use Rattle.std.specs.Fmt.{signed_decimal}
@@ -16,11 +16,11 @@ use Rattle.acta_words.specs.Text.{line_of}
 use Rattle.acta_words.proofs.TextAgain.{IsOneLine, IsPlain, IsWord}
 use Rattle.acta_lang.specs.Faults.{is_printable, not_ascii}
 
--- a printable byte that stands in words
+-- a printable byte that words may have
 abbrev pub is_tidy : ℕ → Bool
 is_tidy b = nat_le 33 b && nat_le b 126 && not (b == 35)
 
--- a word that has such bytes alone, at least one
+-- a word of such bytes, at least one
 abbrev pub is_tidy_word : List ℕ → Bool
 is_tidy_word word = not (length word == 0) && list_all is_tidy word
 

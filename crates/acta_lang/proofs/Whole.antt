@@ -1,4 +1,4 @@
--- A diagnostic has the lines that it tells of.
+-- A diagnostic has the lines that its code needs.
 use Rattle.std.proofs.Common.{◌≡◌, ℕ, Bool, true, false, cond, ◌&&◌, ◌||◌, List, [], ◌∷◌, map, Bor, refl, sym, ap, subst, ◌∙◌, true≢false}
 use Rattle.std.specs.Prelude.{Option, Some, None, is_some, option_and_then, option_map}
 use Rattle.std.specs.List.{list_any}
@@ -20,11 +20,11 @@ use Rattle.acta_lang.specs.Faults.{class_names, code_at, code_if, duplicate_name
 use Rattle.acta_lang.specs.Forms.{form_of, name_in}
 use Rattle.acta_lang.specs.Lines.{ClassAt, begun, part_line, with_line}
 use Rattle.acta_lang.specs.Places.{wrongly_placed}
-use Rattle.acta_lang.specs.inside.Noted.{AreSaid, IsSaid, Noted, class_noted, closed_noted, current_at, current_line, diagnosis, earlier_noted, line_of, noted, noted_by, parsed_more}
+use Rattle.acta_lang.specs.inside.Noted.{AreParsed, IsParsed, Noted, class_noted, closed_noted, current_at, current_line, diagnosis, earlier_noted, line_of, noted, noted_by, parsed_more}
 use Rattle.acta_lang.specs.inside.Abstraction.{current_shown, abstraction}
 use Rattle.acta_lang.proofs.Held.{among_classes, object_names-abstraction}
 
--- ---- a code is that of a test that passes
+-- ---- a code comes from a test that passes
 
 abbrev test_of : {A : Type 0} → Draft A → Draft A → Bool → List ℕ → List (List ℕ) → Form → Code → Bool
 test_of d behind is_last line words parsed NotAscii = not_ascii line
@@ -128,7 +128,7 @@ name-has h words parsed twice =
     (line_of (name_in words) (noted h).objects) (option_or (line_of (name_in words) (noted h).classes) (current_line (name_in words) (noted h).current))
     (apart parsed) twice (object-found h (name_in words)) (class-found h (name_in words))
 
--- ---- a class that is open
+-- ---- an open class
 
 same_open : {A : Type 0} (o : Option (ClassDraft A)) → is_some (option_map current_at o) ≡ is_some (option_map current_shown o)
 same_open None = refl
@@ -181,9 +181,9 @@ end-has h n is_last words parsed missing = of_test (is_class parsed) refl
     of_test true is = refl
     of_test false is = same_open h.current ∙ open-has (abstraction h) words parsed is (both is_last (is_some (extended (abstraction h) words parsed).current) missing)
 
--- ---- a part that has been said
+-- ---- a part that is repeated
 
-parsed-next : (parsed : Form) (n : ℕ) (c : OpenClass) (k : ClassAt) → AreSaid c k.parts → AreSaid (with_parsed parsed c) (with_line parsed n k.parts)
+parsed-next : (parsed : Form) (n : ℕ) (c : OpenClass) (k : ClassAt) → AreParsed c k.parts → AreParsed (with_parsed parsed c) (with_line parsed n k.parts)
 parsed-next (form.Starts s) n c k h = record { starts = refl; may = h.may; scope = h.scope; policy = h.policy; commit = h.commit; delegation = h.delegation }
 parsed-next (form.May s) n c k h = record { starts = h.starts; may = refl; scope = h.scope; policy = h.policy; commit = h.commit; delegation = h.delegation }
 parsed-next (form.Scope s) n c k h = record { starts = h.starts; may = h.may; scope = refl; policy = h.policy; commit = h.commit; delegation = h.delegation }
@@ -200,19 +200,19 @@ parsed-next (form.Split s) n c k h = record { starts = h.starts; may = h.may; sc
 parsed-next form.End n c k h = h
 parsed-next form.Unknown n c k h = h
 
-say-next : (parsed : Form) (n : ℕ) (o : Option OpenClass) (p : Option ClassAt) → IsSaid o p → IsSaid (option_map (with_parsed parsed) o) (option_map (parsed_more parsed n) p)
+say-next : (parsed : Form) (n : ℕ) (o : Option OpenClass) (p : Option ClassAt) → IsParsed o p → IsParsed (option_map (with_parsed parsed) o) (option_map (parsed_more parsed n) p)
 say-next parsed n None None h = tt
 say-next parsed n None (Some k) h = absurd h
 say-next parsed n (Some c) None h = absurd h
 say-next parsed n (Some c) (Some k) h = parsed-next parsed n c k h
 
-close-next : {A : Type 0} (d : Draft A) (x : Noted) (o : Option OpenClass) (p : Option ClassAt) → d.current ≡ o → x.current ≡ p → IsSaid o p → IsSaid (with_closed d o).current (closed_noted x p).current
-close-next d x None None is at h = subst (λ (q : Option OpenClass). IsSaid q x.current) (sym is) (subst (λ (q : Option ClassAt). IsSaid None q) (sym at) tt)
+close-next : {A : Type 0} (d : Draft A) (x : Noted) (o : Option OpenClass) (p : Option ClassAt) → d.current ≡ o → x.current ≡ p → IsParsed o p → IsParsed (with_closed d o).current (closed_noted x p).current
+close-next d x None None is at h = subst (λ (q : Option OpenClass). IsParsed q x.current) (sym is) (subst (λ (q : Option ClassAt). IsParsed None q) (sym at) tt)
 close-next d x None (Some k) is at h = absurd h
 close-next d x (Some c) None is at h = absurd h
 close-next d x (Some c) (Some k) is at h = tt
 
-pub line-next : {A : Type 0} (n : ℕ) (words : List (List ℕ)) (parsed : Form) (d : Draft A) (x : Noted) → IsSaid d.current x.current → IsSaid (extended d words parsed).current (noted_by n words parsed x).current
+pub line-next : {A : Type 0} (n : ℕ) (words : List (List ℕ)) (parsed : Form) (d : Draft A) (x : Noted) → IsParsed d.current x.current → IsParsed (extended d words parsed).current (noted_by n words parsed x).current
 unfolding extended
 line-next n words form.Register d x h = h
 line-next n words form.Counter d x h = h
@@ -230,7 +230,7 @@ line-next n words (form.Spawn s) d x h = say-next (form.Spawn s) n d.current x.c
 line-next n words (form.Split s) d x h = say-next (form.Split s) n d.current x.current h
 line-next n words form.Unknown d x h = say-next form.Unknown n d.current x.current h
 
-part-has : (parsed : Form) (c : OpenClass) (k : ClassAt) → AreSaid c k.parts → has_part parsed c ≡ true → is_some (part_line parsed k.parts) ≡ true
+part-has : (parsed : Form) (c : OpenClass) (k : ClassAt) → AreParsed c k.parts → has_part parsed c ≡ true → is_some (part_line parsed k.parts) ≡ true
 part-has (form.Starts s) c k h holds = h.starts ∙ holds
 part-has (form.May s) c k h holds = h.may ∙ holds
 part-has (form.Scope s) c k h holds = h.scope ∙ holds
@@ -251,14 +251,14 @@ once-is : (b : Bool) → cond b want.Once want.Ended ≡ want.Once → b ≡ tru
 once-is true e = refl
 once-is false e = absurd cc
 
-again-has : (o : Option OpenClass) (p : Option ClassAt) (parsed : Form) → IsSaid o p → wrongly_placed o parsed ≡ want.Once → (is_some (option_and_then (λ (k : ClassAt). part_line parsed k.parts) p) ≡ true) × (is_some p ≡ true)
+again-has : (o : Option OpenClass) (p : Option ClassAt) (parsed : Form) → IsParsed o p → wrongly_placed o parsed ≡ want.Once → (is_some (option_and_then (λ (k : ClassAt). part_line parsed k.parts) p) ≡ true) × (is_some p ≡ true)
 again-has None p parsed h once = absurd cc
 again-has (Some c) None parsed h once = absurd h
 again-has (Some c) (Some k) parsed h once = (part-has parsed c k h (once-is (has_part parsed c) once), refl)
 
 -- ---- all of it
 
-pub is_whole : {A : Type 0} (h : held.Draft A) (n : ℕ) (is_last : Bool) (line : List ℕ) (code : Code) → IsSaid (abstraction h).current (noted h).current → code_at (abstraction h) is_last line ≡ Some code
+pub is_whole : {A : Type 0} (h : held.Draft A) (n : ℕ) (is_last : Bool) (line : List ℕ) (code : Code) → IsParsed (abstraction h).current (noted h).current → code_at (abstraction h) is_last line ≡ Some code
     → IsWhole (diagnosis (abstraction h) (noted h) n line code)
 is_whole h n is_last line code parsed found =
     let words = words_of line in

@@ -5,7 +5,7 @@ use Rattle.acta_words.specs.Text.{line_of}
 use Rattle.acta_lang.specs.Canonical.{word_if}
 use Rattle.acta_lang.specs.inside.Written.{spaced, written}
 
--- the line of some words is the first, and each other behind a space
+-- the line of some words is the first, and each other after a space
 pub line_spaced : (word : List ℕ) (words : List (List ℕ)) → line_of (word ∷ words) ≡ word ++ spaced words
 line_spaced word [] = sym (append-nil word)
 line_spaced word (next ∷ words) = ap (λ t. word ++ 32 ∷ t) (line_spaced next words)
@@ -22,7 +22,7 @@ line_written old first words =
     ∙ ap (λ t. old ++ (t ++ 10 ∷ [])) (sym (line_spaced first words))
     ∙ ap (λ t. old ++ t) (sym (append-nil (line_of (first ∷ words) ++ 10 ∷ [])))
 
--- the same, with what stands between the pieces under names
+-- the same, with names for the texts between the pieces
 pub line_pieces : (old first : List ℕ) (words : List (List ℕ)) (a b c : List ℕ) → a ≡ old ++ first → b ≡ a ++ spaced words → c ≡ b ++ 10 ∷ [] → c ≡ old ++ written ((first ∷ words) ∷ [])
 line_pieces old first words a b c begun parsed ended =
     ended ∙ ap (λ t. t ++ 10 ∷ []) (parsed ∙ ap (λ t. t ++ spaced words) begun) ∙ line_written old first words
@@ -31,7 +31,7 @@ line_pieces old first words a b c begun parsed ended =
 pub word_more : (old text new word : List ℕ) (words : List (List ℕ)) → text ≡ old ++ 32 ∷ word → new ≡ text ++ spaced words → new ≡ old ++ spaced (word ∷ words)
 word_more old text new word words begun more = more ∙ ap (λ t. t ++ spaced words) begun ∙ append_assoc old (32 ∷ word) (spaced words)
 
--- lines behind lines
+-- lines after lines
 pub lines_more : (old text new : List ℕ) (a b : List (List (List ℕ))) → text ≡ old ++ written a → new ≡ text ++ written b → new ≡ old ++ written (a ++ b)
 lines_more old text new a b begun more =
     more ∙ ap (λ t. t ++ written b) begun ∙ append_assoc old (written a) (written b) ∙ ap (λ t. old ++ t) (sym (written-append a b))

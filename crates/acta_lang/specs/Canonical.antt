@@ -17,7 +17,7 @@ use Rattle.acta_table.specs.Kinds.{has_kind}
 use Rattle.acta_words.specs.Text.{line_of, text_of}
 use Rattle.acta_lang.specs.Words.{may_kinds, may_word, scope_word, commit_word, extent_word}
 
--- the words behind `object NAME`
+-- the words after `object NAME`
 abbrev pub kind_words : Kind → List (List ℕ)
 kind_words (Register first) = codes "register" ∷ signed_decimal first ∷ []
 kind_words (Counter first) = codes "counter" ∷ signed_decimal first ∷ []
@@ -27,7 +27,7 @@ kind_words Elements = codes "set" ∷ []
 abbrev pub object_words : {A : Type 0} → Object A → List (List ℕ)
 object_words o = codes "object" ∷ o.name ∷ kind_words o.kind
 
--- the word, where the test is true
+-- the word, if the test is true
 abbrev pub word_if : Bool → List ℕ → List (List ℕ)
 word_if test word = if test then word ∷ [] else []
 
@@ -47,7 +47,7 @@ abbrev pub policy_words : Policy → List (List ℕ)
 policy_words Refuse = codes "refuse" ∷ []
 policy_words (Depend kinds) = codes "depend" ∷ dep_words kinds
 
--- the words of the line of an edge at a start: the one that depends stands first
+-- the words of the line of an edge at a start: the dependent end comes first
 abbrev pub edge_words : List ℕ → StartEdge → List (List ℕ)
 edge_words at e = directed_words at (word_of e.kind) e.dependent
   where

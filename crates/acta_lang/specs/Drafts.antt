@@ -1,4 +1,4 @@
--- What the lines of a text declare, one after another.
+-- What the lines of a text declare, line by line.
 use Rattle.std.specs.Prelude.{ℕ, Bool, false, ◌&&◌, List, [], ◌∷◌, ◌++◌, fold, Option, Some, None, is_some, option_map, unwrap_or, ℤ, pos}
 use Rattle.acta_table.specs.declared.model.AtCommit.{AtCommit}
 use Rattle.acta_table.specs.declared.model.AtCommit.TheVariants.{Keeps}
@@ -23,7 +23,7 @@ use Rattle.acta_lang.specs.declared.form.Form.TheVariants as form
 use Rattle.acta_lang.specs.Forms.{form_of, name_in, value_in}
 use Rattle.acta_lang.specs.Words.{starts_of}
 
--- a class that is open: its name, and what its lines have said so far
+-- an open class: its name, and its parts so far
 pub record OpenClass : Type 0 where
   pub name : List ℕ
   pub starts : Option Starts
@@ -35,7 +35,7 @@ pub record OpenClass : Type 0 where
   pub spawn_edges : List StartEdge
   pub split_edges : List StartEdge
 
--- the objects, the classes that are closed, in order, and the class that is open
+-- the objects, the closed classes, in order, and the open class
 pub record Draft (A : Type 0) : Type 0 where
   pub objects : List (Object A)
   pub classes : List (Class A)
@@ -45,7 +45,7 @@ pub record Draft (A : Type 0) : Type 0 where
 abbrev pub nothing_yet : {A : Type 0} → Draft A
 nothing_yet = record { objects = []; classes = []; current = None }
 
--- a class that has said nothing yet
+-- a class without parts
 abbrev pub opened : List ℕ → OpenClass
 opened name = record {
   name = name;
@@ -59,7 +59,7 @@ opened name = record {
   split_edges = [];
 }
 
--- whether the class has said already what a line of this form says; an edge may be said again
+-- whether the class already has the part of a line of this form; an edge may be repeated
 abbrev pub has_part : Form → OpenClass → Bool
 has_part (form.Starts s) c = is_some c.starts
 has_part (form.May kinds) c = is_some c.may
@@ -69,12 +69,12 @@ has_part (form.Commit a) c = is_some c.at_commit
 has_part (form.Delegation e) c = is_some c.extent
 has_part _ c = false
 
--- whether the class has said all six
+-- whether the class has all six parts
 abbrev pub has_all_parts : OpenClass → Bool
 has_all_parts c =
     is_some c.starts && is_some c.may && is_some c.scope && is_some c.policy && is_some c.at_commit && is_some c.extent
 
--- the class, where it has said all six; what stands in for one that it hasn't said never counts
+-- the class, if it has all six parts; the defaults for missing parts are never used
 abbrev pub closed : {A : Type 0} → OpenClass → Class A
 closed c = record {
   name = c.name;
@@ -88,7 +88,7 @@ closed c = record {
   split_edges = each_start_edge_once c.split_edges;
 }
 
--- the class with what a line of this form says
+-- the class with the part of a line of this form
 abbrev pub with_parsed : Form → OpenClass → OpenClass
 with_parsed (form.Starts s) c = record c { starts = Some s }
 with_parsed (form.May kinds) c = record c { may = Some kinds }
@@ -104,16 +104,16 @@ with_parsed _ c = c
 abbrev pub with_object : {A : Type 0} → Draft A → List ℕ → Kind → Draft A
 with_object d name kind = record d { objects = d.objects ++ (record { name = name; kind = kind }) ∷ [] }
 
--- the draft where the class that is open, if one is, is closed
+-- the draft with the open class closed, if there is one
 abbrev pub with_closed : {A : Type 0} → Draft A → Option OpenClass → Draft A
 with_closed d None = d
 with_closed d (Some c) = record d { classes = d.classes ++ closed c ∷ []; current = None }
 
--- the first value that a word stands for, and 0 where it is no number
+-- the value of a word, or 0 if it is not a number
 abbrev pub first_value : List ℕ → ℤ
 first_value word = unwrap_or (read_integer 0x8000_0000 word) (pos 0)
 
--- the draft with what a line of these words, of this form, declares
+-- the draft with what a line of these words and this form declares
 unfoldable pub extended : {A : Type 0} → Draft A → List (List ℕ) → Form → Draft A
 extended d words form.Register = with_object d (name_in words) (Register (first_value (value_in words)))
 extended d words form.Counter = with_object d (name_in words) (Counter (first_value (value_in words)))
@@ -130,6 +130,6 @@ extended_by d line = extended d (words_of line) (form_of (words_of line))
 abbrev pub declared : {A : Type 0} → List (List ℕ) → Draft A
 declared lines = fold extended_by nothing_yet lines
 
--- the objects and classes of which a model is made
+-- the objects and classes of the model
 abbrev pub parts_of : {A : Type 0} → Draft A → Parts A
 parts_of d = record { objects = d.objects; classes = d.classes }

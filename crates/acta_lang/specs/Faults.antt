@@ -1,5 +1,4 @@
--- What can be wrong with a line: each fault looks at the line, at what the lines before it declare, and at whether it
--- is the last line of the text.
+-- What can be wrong with a line. Each test sees the line, what the lines before it declare, and whether it is the last line.
 use Rattle.std.specs.Prelude.{ℕ, Bool, true, false, not, ◌&&◌, ◌||◌, ◌==◌, nat_le, List, [], ◌∷◌, ◌++◌, map, length, fold, if◌then◌else◌, Option, Some, None, is_some, is_none}
 use Rattle.std.specs.List.{list_all}
 use Rattle.std.specs.Option.{option_or, option_map_or}
@@ -43,7 +42,7 @@ class_names d = map (λ c. c.name) d.classes ++ option_map_or (λ c. c.name ∷ 
 abbrev pub is_printable : ℕ → Bool
 is_printable b = (b == 9) || (nat_le 32 b && nat_le b 126)
 
--- a byte that is not such a one, in a comment too
+-- a byte that is not printable, even in a comment
 unfoldable pub not_ascii : List ℕ → Bool
 not_ascii line = not (list_all is_printable line)
 
@@ -52,23 +51,23 @@ unfoldable pub bad_word : Form → Bool
 bad_word form.Unknown = true
 bad_word _ = false
 
--- the name of an object or a class is no name
+-- the name of an object or a class is not a valid name
 unfoldable pub bad_name : List (List ℕ) → Form → Bool
 bad_name words parsed = (is_object parsed || is_class parsed) && not (is_name (name_in words))
 
--- an earlier line names such an object, or such a class
+-- an earlier line declares an object, or a class, of this name
 unfoldable pub duplicate_name : {A : Type 0} → Draft A → List (List ℕ) → Form → Bool
 duplicate_name d words parsed =
     is_object parsed && is_word_among (object_names d) (name_in words)
     || is_class parsed && is_word_among (class_names d) (name_in words)
 
--- an object or a class inside a class, any other words outside one, or what the class has said already
+-- an object or a class inside a class, any other words outside one, or a part that the class already has
 unfoldable pub wrong_place : {A : Type 0} → Draft A → Form → Bool
 wrong_place d form.Blank = false
 wrong_place d parsed =
     if is_object parsed || is_class parsed then is_some d.current else option_map_or (has_part parsed) d.current true
 
--- a first value that is no number of 32 bits
+-- a first value is not a number of 32 bits
 unfoldable pub bad_number : List (List ℕ) → Form → Bool
 bad_number words form.Register = is_none (read_integer 0x8000_0000 (value_in words))
 bad_number words form.Counter = is_none (read_integer 0x8000_0000 (value_in words))
@@ -79,36 +78,36 @@ unfoldable pub too_many : {A : Type 0} → Draft A → Form → Bool
 too_many d parsed =
     is_object parsed && nat_le MOST_OBJECTS (length d.objects) || is_class parsed && nat_le MOST_CLASSES (length d.classes)
 
--- the last line, and a class is still open behind it
+-- the last line leaves a class open
 unfoldable pub missing_end : {A : Type 0} → Bool → Draft A → Bool
 missing_end is_last behind = is_last && is_some behind.current
 
--- an `end` of a class that hasn't said all six; the last line of a text without a class
+-- an `end` of a class without all six parts, or the last line of a text without a class
 unfoldable pub missing_part : {A : Type 0} → Bool → Draft A → Draft A → Form → Bool
 missing_part is_last d behind parsed =
     is_end parsed && option_map_or (λ c. not (has_all_parts c)) d.current false
     || is_last && (length behind.classes == 0)
 
--- an edge at a start that is of a begin kind
+-- an edge at a start is of a begin kind
 unfoldable pub begin_kind_at_start : Form → Bool
 begin_kind_at_start (form.Spawn e) = is_begin_kind e.kind
 begin_kind_at_start (form.Split e) = is_begin_kind e.kind
 begin_kind_at_start _ = false
 
--- an `end` of a class that commits to parents, and of whose transactions some have none
+-- an `end` of a class that commits to parents but whose transactions can start without a parent
 unfoldable pub heir_without_spawn : {A : Type 0} → Draft A → Form → Bool
 heir_without_spawn {A = A} d parsed = is_end parsed && option_map_or (λ c. lacks_parents (closed {A = A} c)) d.current false
 
--- a policy that depends by no kind, or by one other than CD, AD, WD and TD
+-- a policy with no kind of dependency, or with one other than CD, AD, WD and TD
 unfoldable pub bad_policy_kind : Form → Bool
 bad_policy_kind (form.Policy p) = is_bad_policy p
 bad_policy_kind _ = false
 
--- the code, where the test is true
+-- the code, if the test is true
 abbrev pub code_if : Bool → Code → Option Code
 code_if test code = if test then Some code else None
 
--- the lowest code of a line of these words, of this form; behind is the draft with what the line declares
+-- the lowest code of a line of these words and this form; `behind` is the draft with what the line declares
 abbrev pub lowest_of : {A : Type 0} → Draft A → Draft A → Bool → List ℕ → List (List ℕ) → Form → Option Code
 lowest_of d behind is_last line words parsed = fold option_or None (
     code_if (not_ascii line) NotAscii

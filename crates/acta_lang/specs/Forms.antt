@@ -11,15 +11,15 @@ use Rattle.acta_lang.specs.declared.form.Form.{Form}
 use Rattle.acta_lang.specs.declared.form.Form.TheVariants as form
 use Rattle.acta_lang.specs.Words.{start_words, starts_of, may_named, dep_named, kinds_of, deps_of, scope_named, commit_named, extent_named}
 
--- the word that stands for a name, in the lines that have one
+-- the word in the place of a name
 abbrev pub name_in : List (List ℕ) → List ℕ
 name_in words = unwrap_or (slice_get words 1) []
 
--- the word that stands for a first value, in the lines that have one
+-- the word in the place of a first value
 abbrev pub value_in : List (List ℕ) → List ℕ
 value_in words = unwrap_or (slice_get words 3) []
 
--- this form, where there is one, and else none
+-- the form if there is one, otherwise `Unknown`
 abbrev pub known : Option Form → Form
 known o = unwrap_or o form.Unknown
 
@@ -75,7 +75,7 @@ delegation_form (word ∷ []) =
     known (option_map (λ e. form.Delegation e) (extent_named word))
 delegation_form _ = form.Unknown
 
--- which one depends, where the words are `starter` and `started`: the first word names it
+-- the end that depends, named by the first of the words `starter` and `started`
 abbrev pub dependent_named : List ℕ → List ℕ → Option Dependent
 dependent_named j i =
     if bytes_eq j (codes "starter") && bytes_eq i (codes "started") then Some Starter
@@ -99,7 +99,7 @@ abbrev pub end_form : List (List ℕ) → Form
 end_form [] = form.End
 end_form _ = form.Unknown
 
--- the form of a line of a class, by its first word and those behind it
+-- the form of a line of a class, by its first word and those after it
 abbrev pub form_in_class : List ℕ → List (List ℕ) → Form
 form_in_class word words =
     if bytes_eq word (codes "starts") then starts_form words

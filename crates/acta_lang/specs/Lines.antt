@@ -1,4 +1,4 @@
--- The lines of a text that say something, by their numbers, from 1.
+-- The lines of a text that declare a part, an object or a class, by their numbers from 1.
 use Rattle.std.specs.Prelude.{ℕ, suc, Bool, true, false, ◌&&◌, List, [], ◌∷◌, nat_lt, if◌then◌else◌, Option, Some, None, option_map, unwrap_or}
 use Rattle.std.specs.List.{position_from}
 use Rattle.std.specs.Option.{option_or}
@@ -23,11 +23,11 @@ last_line test (line ∷ lines) = option_or (option_map suc (last_line test line
 abbrev pub says : (Form → Bool) → List ℕ → Bool
 says test line = test (form_of (words_of line))
 
--- whether the line has such a form, and this name
+-- whether the line has such a form and this name
 abbrev pub declares : (Form → Bool) → List ℕ → List ℕ → Bool
 declares test name line = says test line && bytes_eq name (name_in (words_of line))
 
--- whether a line of the form says this part of a class
+-- whether a line of the form gives this part of a class
 abbrev pub is_starts : Form → Bool
 is_starts (form.Starts s) = true
 is_starts _ = false
@@ -52,12 +52,12 @@ abbrev pub is_delegation : Form → Bool
 is_delegation (form.Delegation e) = true
 is_delegation _ = false
 
--- the number, where it is that of a line behind this one
+-- the number, if it is greater than that of the line
 abbrev pub behind : ℕ → Option ℕ → Option ℕ
 behind line None = None
 behind line (Some number) = if nat_lt line number then Some number else None
 
--- of the lines, those that say the parts of a class behind the line that begins it
+-- the lines of the parts of a class, after the line that begins it
 abbrev pub parts_behind : ℕ → List (List ℕ) → PartLines
 parts_behind line lines = record {
   starts = behind line (last_line (says is_starts) lines);
@@ -68,17 +68,17 @@ parts_behind line lines = record {
   delegation = behind line (last_line (says is_delegation) lines);
 }
 
--- a class that is open: its name, the line that begins it, and those that say its parts
+-- an open class: its name, the line that begins it, and the lines of its parts
 pub record ClassAt : Type 0 where
   pub name : List ℕ
   pub line : ℕ
   pub parts : PartLines
 
--- the class of this name that the line of this number begins, of these lines
+-- the class of this name that the line of this number begins
 abbrev pub class_since : List ℕ → ℕ → List (List ℕ) → ClassAt
 class_since name line lines = record { name = name; line = line; parts = parts_behind line lines }
 
--- the class of this name that the last line which begins a class begins
+-- the class of this name that the last `class` line begins
 abbrev pub last_class : List ℕ → List (List ℕ) → ClassAt
 last_class name lines = class_since name (unwrap_or (last_line (says is_class) lines) 0) lines
 
@@ -86,11 +86,11 @@ last_class name lines = class_since name (unwrap_or (last_line (says is_class) l
 abbrev pub no_lines : PartLines
 no_lines = record { starts = None; may = None; scope = None; policy = None; commit = None; delegation = None }
 
--- a class that the line of this number begins
+-- a class of which only the first line is read
 abbrev pub begun : List ℕ → ℕ → ClassAt
 begun name line = record { name = name; line = line; parts = no_lines }
 
--- the line of the part that a line of the form says
+-- the line of the part that a line of the form gives
 abbrev pub part_line : Form → PartLines → Option ℕ
 part_line (form.Starts s) lines = lines.starts
 part_line (form.May kinds) lines = lines.may
@@ -100,7 +100,7 @@ part_line (form.Commit a) lines = lines.commit
 part_line (form.Delegation e) lines = lines.delegation
 part_line _ lines = None
 
--- this line for the part that a line of the form says
+-- the lines with this one for the part that a line of the form gives
 abbrev pub with_line : Form → ℕ → PartLines → PartLines
 with_line parsed number lines = record {
   starts = if is_starts parsed then Some number else lines.starts;

@@ -1,4 +1,4 @@
--- The model that a text means, or its fault.
+-- The model that a text declares, or its fault.
 use Rattle.std.specs.Prelude.{◌≡◌, ℕ, ◌+◌, ◌==◌, List, [], ◌∷◌, ◌++◌, length, Option, Some, None, Result, Ok, Err, ⊤}
 use Rattle.acta_table.specs.declared.model.Parts.{Parts}
 use Rattle.acta_words.specs.Text.{lines_of}
@@ -24,23 +24,23 @@ code_number BeginKindAtStart = 10
 code_number HeirWithoutSpawn = 11
 code_number BadPolicyKind = 12
 
--- the fault of the line of this number, if it has one, and else what the rest gives
+-- the fault with the line's number and code, if it has a code, otherwise the result of the rest
 abbrev pub judged : {X : Type 0} → ℕ → Option Code → Result X AsmFault → Result X AsmFault
 judged n None rest = rest
 judged n (Some code) rest = Err (record { line = n; code = code })
 
--- the first fault of the lines that are left, behind those that stand before them, or what all of them declare
+-- the first fault of the remaining lines, after the lines before them, or what all of them declare
 unfoldable pub meaning_behind : {A : Type 0} → List (List ℕ) → List (List ℕ) → Result (Parts A) AsmFault
 meaning_behind before [] = Ok (parts_of (declared before))
 meaning_behind {A = A} before (line ∷ lines) =
     judged (length before + 1) (code_at {A = A} (declared before) (length lines == 0) line)
     (meaning_behind (before ++ line ∷ []) lines)
 
--- the model that the text means, or its first fault, the lowest of that line
+-- the model that the text declares, or the lowest code of its first faulty line
 abbrev pub meaning : {A : Type 0} → List ℕ → Result (Parts A) AsmFault
 meaning text = meaning_behind [] (lines_of text)
 
--- an error says why the text gave no model: its fault, or want of memory, which says nothing of the text
+-- the error is the text's fault, or lack of memory, whatever the text
 abbrev pub IsWhy : {A : Type 0} → Result (Parts A) AsmFault → AsmError → Type 0
 IsWhy meant error.Memory = ⊤
 IsWhy meant (error.Fault f) = meant ≡ Err f

@@ -18,7 +18,7 @@ use Rattle.acta_lang.specs.Drafts.{Draft, OpenClass, has_part}
 use Rattle.acta_lang.specs.Faults.{is_class, is_printable}
 use Rattle.acta_lang.specs.Words.{start_words, may_kinds, may_word, may_named, dep_named, scope_word, scope_named, commit_word, commit_named, extent_word, extent_named}
 
--- the word at a place; none is the empty word
+-- the word at a place, or the empty word
 abbrev pub word_at : List (List ℕ) → ℕ → List ℕ
 word_at words place = unwrap_or (slice_get words place) []
 
@@ -26,7 +26,7 @@ word_at words place = unwrap_or (slice_get words place) []
 abbrev pub place_if : List (List ℕ) → ℕ → Option ℕ
 place_if words place = if nat_lt place (length words) then Some place else None
 
--- whether the word may stand where this is expected, of what takes any number of words
+-- whether the word is allowed where this is expected, in lines that take any number of words
 abbrev pub may_stand : Expected → List ℕ → Bool
 may_stand want.Starts word = is_word_among start_words word
 may_stand want.May word = is_some (may_named word)
@@ -37,8 +37,8 @@ may_stand want.Kinds word = is_some (dep_named word)
 may_stand want.PolicyKinds word = option_map_or is_policy_kind (dep_named word) false
 may_stand _ word = false
 
--- of the words from a place on, the place of the first that may not stand there; else the word that is one too many or
--- lacks is at place 2
+-- the place of the first word, from a place on, that is not allowed there; if there is none, place 2, where a word is
+-- missing or surplus
 abbrev pub stray : Expected → ℕ → List (List ℕ) → ℕ
 stray expected from words =
     option_map_or (λ place. from + place) (position_from (λ word. not (may_stand expected word)) 0 words) 2
@@ -50,7 +50,7 @@ is_object_kind word = bytes_eq word (codes "register") || bytes_eq word (codes "
 abbrev pub is_edge_end : List ℕ → Bool
 is_edge_end word = bytes_eq word (codes "starter") || bytes_eq word (codes "started")
 
--- behind `object`: its kind, if that is none, and else the word behind the last that its kind has
+-- after `object`: the kind, if it is not a kind, otherwise the word after the last that the kind takes
 abbrev pub bad_object : List (List ℕ) → ℕ × Expected
 bad_object (name ∷ kind ∷ more) =
     if not (is_object_kind kind) then (2, want.ObjectKind)
@@ -58,7 +58,7 @@ bad_object (name ∷ kind ∷ more) =
     else (4, want.Object)
 bad_object _ = (4, want.Object)
 
--- behind `policy`
+-- after `policy`
 abbrev pub bad_policy : List (List ℕ) → ℕ × Expected
 bad_policy [] = (1, want.Policy)
 bad_policy (word ∷ kinds) =
@@ -66,7 +66,7 @@ bad_policy (word ∷ kinds) =
     else if bytes_eq word (codes "refuse") then (2, want.Policy)
     else (1, want.Policy)
 
--- a line of an edge: the first of its ends, its kind, its other end, or the word behind that
+-- an edge's line: its first end, its kind, its other end, or the word after that
 abbrev pub bad_edge : Expected → Expected → Expected → List (List ℕ) → ℕ × Expected
 bad_edge end kind other words =
     if not (is_edge_end (word_at words 1)) then (1, end)
@@ -74,7 +74,7 @@ bad_edge end kind other words =
     else if not (is_edge_end (word_at words 3)) || bytes_eq (word_at words 1) (word_at words 3) then (3, other)
     else (4, other)
 
--- a line with this first word, and these behind it
+-- a line with this first word and these words after it
 abbrev pub bad_class_line : List ℕ → List (List ℕ) → ℕ × Expected
 bad_class_line word words =
     if bytes_eq word (codes "starts") then (stray want.Starts 1 words, want.Starts)
@@ -96,21 +96,22 @@ bad_word_place (word ∷ words) =
     else if bytes_eq word (codes "split") then bad_edge want.SplitEnd want.SplitKind want.SplitOther (word ∷ words)
     else bad_class_line word words
 
--- a line of a policy: the first kind by which no class may depend, or else the kind that it lacks
+-- a policy's line: the first kind that a policy may not form, otherwise the missing kind
 abbrev pub policy_place : List (List ℕ) → ℕ
 policy_place (first ∷ word ∷ kinds) = stray want.PolicyKinds 2 kinds
 policy_place _ = 2
 
--- the offset of the first byte that no line has
+-- the offset of the first byte that no line may have
 abbrev pub stray_byte : List ℕ → ℕ
 stray_byte line = unwrap_or (position_from (λ b. not (is_printable b)) 0 line) 0
 
--- what is expected of a line in the wrong place: that its class is open, hasn't said it, or is ended
+-- what is expected instead of a line in the wrong place: without an open class a line allowed there, otherwise a new part or
+-- the end of the class
 abbrev pub wrongly_placed : Option OpenClass → Form → Expected
 wrongly_placed None parsed = want.Outside
 wrongly_placed (Some c) parsed = if has_part parsed c then want.Once else want.Ended
 
--- what a text lacks: parts of the class that is open, or a class
+-- what a text lacks: parts of the open class, or a class
 abbrev pub lacking : Option OpenClass → Expected
 lacking None = want.SomeClass
 lacking (Some c) = want.AllParts
@@ -121,7 +122,7 @@ first_words =
     codes "object" ∷ codes "class" ∷ codes "starts" ∷ codes "may" ∷ codes "scope" ∷ codes "policy" ∷ codes "commit"
     ∷ codes "delegation" ∷ codes "spawn" ∷ codes "split" ∷ codes "end" ∷ []
 
--- the words that can stand in the place of a word that is none of them
+-- the words that are allowed where this is expected
 abbrev pub meant_words : Expected → List (List ℕ)
 meant_words want.FirstWord = first_words
 meant_words want.ObjectKind = codes "register" ∷ codes "counter" ∷ codes "set" ∷ []
@@ -138,7 +139,7 @@ meant_words want.SpawnKind = map word_of all_kinds
 meant_words want.SplitKind = map word_of all_kinds
 meant_words _ = []
 
--- the place by the code, before it is known whether the line has a word there
+-- the place for the code, before checking that the line has a word there
 abbrev pub wanted : {A : Type 0} → Draft A → List (List ℕ) → Form → Code → ℕ × Expected
 wanted d words parsed NotAscii = (0, want.FirstWord)
 wanted d words parsed BadWord = bad_word_place words
@@ -153,7 +154,7 @@ wanted d words parsed BeginKindAtStart = (2, want.StartKind)
 wanted d words parsed HeirWithoutSpawn = (0, want.Parents)
 wanted d words parsed BadPolicyKind = (policy_place words, want.PolicyKinds)
 
--- the place of the word at fault, and what is expected there, of a line with this code, behind lines that declare this
+-- the place of the word at fault and what is expected there, for a line with this code after lines that declare this
 abbrev pub place_of : {A : Type 0} → Draft A → List ℕ → List (List ℕ) → Form → Code → Option ℕ × Expected
 place_of d line words parsed NotAscii = (None, want.Printable (stray_byte line))
 place_of d line words parsed code =

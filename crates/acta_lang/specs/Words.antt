@@ -1,4 +1,4 @@
--- The words of the language, and what they stand for.
+-- The words of the language and their values.
 use Rattle.std.specs.Prelude.{ℕ, List, [], ◌∷◌, fold, find, bit_or, codes, Option}
 use Rattle.std.specs.Str.{bytes_eq}
 use Rattle.acta_table.specs.declared.dep.Dep.{Dep}

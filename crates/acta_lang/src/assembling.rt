@@ -1,4 +1,4 @@
-//! From a text to the model that it means, or to what is wrong with it.
+//! From a text to its model, or to its first fault.
 
 ghost use Rattle.std.specs.Prelude.{◌≡◌, Ok, IfOk, IfErr, IfSome, option_map};
 ghost use Rattle.std.specs.Result.{result_err};
@@ -11,8 +11,8 @@ use crate::fault::AsmError;
 use acta_table::Model;
 use std::alloc::{AllocError, Allocator};
 
-/// The model that the text means (the language is ours). `Fault` where something is wrong with a line: the first such
-/// line, with the lowest code there. `Memory` where there is none.
+/// Parses the text into a checked model. Returns `Fault` with the first faulty line and the lowest code there, or `Memory`
+/// if memory runs out.
 pub fn assemble<A: Allocator + Copy>(alloc: A, text: &[u8]) -> Result<Model<A>, AsmError>
     ensures ok { IfOk result (λ model. meaning text.now ≡ Ok model) }
     ensures fault { IfErr result (IsWhy {A = A} (meaning text.now)) }
@@ -26,9 +26,8 @@ pub fn assemble<A: Allocator + Copy>(alloc: A, text: &[u8]) -> Result<Model<A>, 
     }
 }
 
-/// What is wrong with the text: the line and the code that `assemble` answers, with the word at fault, what is expected
-/// in its place, and the earlier lines that the fault has to do with; `None` where the text means a model, which
-/// `assemble` gives.
+/// The diagnostic of the text's first fault: the line and code that `assemble` returns, the word at fault, what is expected
+/// in its place, and the earlier lines involved. `None` if `assemble` accepts the text.
 pub fn diagnose<A: Allocator + Copy>(
     alloc: A,
     text: &[u8],

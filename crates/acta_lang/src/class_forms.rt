@@ -1,5 +1,4 @@
-//! The lines of a class that say one thing each: how its transactions start, what they may do, their scope, what
-//! becomes of what they hold, and the edges at a start.
+//! The lines of a class with one setting each: starts, allowed events, scope, commit, delegation, and the edges at a start.
 
 ghost use Rattle.std.specs.Prelude.{◌≡◌, map};
 ghost use Rattle.std.specs.List.{list_all};
@@ -20,7 +19,7 @@ fn are_starts(words: &[&[u8]]) -> bool
     words.iter().all(|word| is_start(word))
 }
 
-/// `[begin|spawned|split]...`, behind `starts`
+/// `[begin|spawned|split]...`, after `starts`
 pub(crate) fn starts_form(words: &[&[u8]]) -> Form
     ensures { result ≡ starts_form (map (λ word. word.now) words.now) }
 {
@@ -34,7 +33,7 @@ pub(crate) fn starts_form(words: &[&[u8]]) -> Form
     })
 }
 
-/// `[spawn|split|join|delegate|form|operate|commit|abort|permit]...`, behind `may`
+/// `[spawn|split|join|delegate|form|operate|commit|abort|permit]...`, after `may`
 pub(crate) fn may_form(words: &[&[u8]]) -> Form
     ensures { result ≡ may_form (map (λ word. word.now) words.now) }
 {
@@ -48,7 +47,7 @@ pub(crate) fn may_form(words: &[&[u8]]) -> Form
     Form::May(kinds)
 }
 
-/// `others|nonancestors`, behind `scope`
+/// `others|nonancestors`, after `scope`
 pub(crate) fn scope_form(words: &[&[u8]]) -> Form
     ensures { result ≡ scope_form (map (λ word. word.now) words.now) }
 {
@@ -61,7 +60,7 @@ pub(crate) fn scope_form(words: &[&[u8]]) -> Form
     }
 }
 
-/// `keeps|toparent`, behind `commit`
+/// `keeps|toparent`, after `commit`
 pub(crate) fn commit_form(words: &[&[u8]]) -> Form
     ensures { result ≡ commit_form (map (λ word. word.now) words.now) }
 {
@@ -74,7 +73,7 @@ pub(crate) fn commit_form(words: &[&[u8]]) -> Form
     }
 }
 
-/// `whole|any`, behind `delegation`
+/// `whole|any`, after `delegation`
 pub(crate) fn delegation_form(words: &[&[u8]]) -> Form
     ensures { result ≡ delegation_form (map (λ word. word.now) words.now) }
 {
@@ -87,7 +86,7 @@ pub(crate) fn delegation_form(words: &[&[u8]]) -> Form
     }
 }
 
-// Which one depends: the first of the two words names it.
+// The end of the edge that depends: the first of the two words names it.
 fn dependent_named(j: &[u8], i: &[u8]) -> Option<Dependent>
     ensures { result ≡ dependent_named j.now i.now }
 {
@@ -100,7 +99,7 @@ fn dependent_named(j: &[u8], i: &[u8]) -> Option<Dependent>
     }
 }
 
-/// `starter KIND started`, `started KIND starter`, behind `spawn` or `split`
+/// `starter KIND started`, `started KIND starter`, after `spawn` or `split`
 pub(crate) fn parse_edge(words: &[&[u8]]) -> Option<StartEdge>
     ensures { result ≡ parse_edge (map (λ word. word.now) words.now) }
 {

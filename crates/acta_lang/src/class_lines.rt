@@ -1,4 +1,4 @@
-//! The lines of a class, written behind a text.
+//! Writes the lines of a class.
 
 ghost use Rattle.std.specs.Prelude.{◌≡◌, ◌++◌, ◌∷◌, [], map, codes, OnOk};
 ghost use Rattle.acta_table.specs.Dependencies.{word_of};
@@ -100,7 +100,7 @@ fn push_policy<A: Allocator>(text: &mut Vec<u8, A>, policy: Policy) -> Result<()
     Ok(())
 }
 
-// The words of an edge behind the event at which it is formed: the one that depends stands first.
+// The words of an edge after `spawn` or `split`: the dependent end comes first.
 fn push_directed<A: Allocator>(
     text: &mut Vec<u8, A>,
     at: &[u8],
@@ -147,7 +147,7 @@ fn push_edges<A: Allocator>(
     Ok(())
 }
 
-// What the class says once, up to its scope.
+// The lines from `starts` up to `scope`.
 fn push_start<A: Allocator>(text: &mut Vec<u8, A>, class: &Class<A>) -> Result<(), AllocError>
     ensures { OnOk result (text.new.items ≡ text.old.items ++ written (start_lines class.now)) }
 {
@@ -158,7 +158,7 @@ fn push_start<A: Allocator>(text: &mut Vec<u8, A>, class: &Class<A>) -> Result<(
     Ok(())
 }
 
-// What it says once, from its policy on.
+// The lines from `policy` on.
 fn push_rest<A: Allocator>(text: &mut Vec<u8, A>, class: &Class<A>) -> Result<(), AllocError>
     ensures { OnOk result (text.new.items ≡ text.old.items ++ written (rest_lines class.now)) }
 {
@@ -176,7 +176,7 @@ fn push_rest<A: Allocator>(text: &mut Vec<u8, A>, class: &Class<A>) -> Result<()
     Ok(())
 }
 
-/// Writes the lines of the class behind the text.
+/// Appends the lines of the class to the text.
 pub(crate) fn push_class<A: Allocator>(
     text: &mut Vec<u8, A>,
     class: &Class<A>,

@@ -1,4 +1,4 @@
-//! The lowest code of a line: each test stands for itself, and the first that passes, in their order, is answered.
+//! The lowest code of a line: the tests are independent, and the first that passes, in the order of codes, decides.
 
 ghost use Rattle.std.specs.Prelude.{◌≡◌, map};
 ghost use Rattle.std.specs.List.{list_all};

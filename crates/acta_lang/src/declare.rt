@@ -1,4 +1,4 @@
-//! From one line to the next: the first line at which something is wrong ends it, with the lowest code there.
+//! Reads line after line, up to the first faulty one.
 
 ghost use Rattle.std.specs.Prelude.{◌≡◌, false, None, Ok, IfOk, IfErr, option_map};
 ghost use Rattle.acta_lang.specs.Diagnostics.{reported};
@@ -19,7 +19,7 @@ use crate::places::place_of;
 use acta_words::{Lines, words_of};
 use std::alloc::{AllocError, Allocator};
 
-// Adds what the next line declares, which has this number, or answers what is wrong with it.
+// Adds what the line of this number declares, or returns its fault.
 fn read_line<'a, A: Allocator + Copy>(
     draft: &mut Draft<'a, A>,
     alloc: A,
@@ -53,7 +53,7 @@ fn read_line<'a, A: Allocator + Copy>(
     }
 }
 
-/// What a text declares, or its first fault. `Memory` where there is none.
+/// What a text declares, or its first fault. `Memory` if memory runs out.
 pub(crate) fn declare_all<'a, A: Allocator + Copy>(
     alloc: A,
     text: &'a [u8],

@@ -1,5 +1,5 @@
-//! Where a text is wrong: the line and its code, the word at fault, what is expected in its place, and the earlier lines
-//! that the fault has to do with.
+//! Where a text is wrong: the line, its code, the word at fault, what is expected in its place, and the earlier lines
+//! involved.
 
 ghost use Rattle.std.specs.Prelude.{◌≡◌, map};
 ghost use Rattle.acta_lang.specs.Diagnostics.{asm_error_of};
@@ -24,29 +24,29 @@ pub enum Expected {
     Object,
     /// The words of a line that begins a class.
     Class,
-    /// The ways in which transactions start, behind `starts`.
+    /// The ways in which transactions start, after `starts`.
     Starts,
-    /// The kinds of event, behind `may`.
+    /// The kinds of event, after `may`.
     May,
-    /// The scope, behind `scope`.
+    /// The scope, after `scope`.
     Scope,
     /// The words of a line of a policy.
     Policy,
-    /// Kinds of dependency, behind `policy depend`.
+    /// Kinds of dependency, after `policy depend`.
     Kinds,
-    /// What a commit does, behind `commit`.
+    /// What a commit does, after `commit`.
     Commit,
-    /// How much is handed over, behind `delegation`.
+    /// How much a delegation transfers, after `delegation`.
     Delegation,
-    /// Nothing more, behind `end`.
+    /// Nothing more, after `end`.
     End,
-    /// `starter` or `started`, behind `spawn`.
+    /// `starter` or `started`, after `spawn`.
     SpawnEnd,
     /// A kind of dependency, in a line of an edge at a spawn.
     SpawnKind,
     /// The other of `starter` and `started`, which ends a line of an edge at a spawn.
     SpawnOther,
-    /// `starter` or `started`, behind `split`.
+    /// `starter` or `started`, after `split`.
     SplitEnd,
     /// A kind of dependency, in a line of an edge at a split.
     SplitKind,
@@ -58,33 +58,33 @@ pub enum Expected {
     NewObject,
     /// A name that no class has.
     NewClass,
-    /// A line that may stand outside a class, since none is open.
+    /// A line that is allowed outside a class: no class is open.
     Outside,
-    /// An end of the class that is open, before the line.
+    /// The end of the open class, before this line.
     Ended,
-    /// A line of a part that the class has not said yet.
+    /// A line of a part that the class does not have yet.
     Once,
     /// A whole number of 32 bits, with its sign.
     Number,
     /// No more objects, or no more classes.
     Fewer,
-    /// An end of the class that is open.
+    /// The end of the open class.
     ClassEnd,
     /// A class.
     SomeClass,
-    /// All six parts of the class that ends.
+    /// The parts that the class lacks, of its six.
     AllParts,
-    /// A kind of dependency that limits no begin.
+    /// A kind of dependency other than a begin kind.
     StartKind,
-    /// That each transaction of a class which commits to parents has one.
+    /// A parent for every transaction of a class that commits to parents.
     Parents,
-    /// The kinds of dependency by which a class may depend, and one at least.
+    /// At least one kind, and only kinds that a policy may form.
     PolicyKinds,
 }
 
 impl Expected {
-    /// The words of the language that can stand in the place of the word at fault, where that is none of the language's
-    /// words for this place. Empty where it is a name, a number, or one of those words in a line where it is not allowed.
+    /// The words of the language that are allowed in the place of the word at fault, if the place takes only such words and
+    /// the word is none of them; otherwise empty.
     pub fn words(self) -> &'static [&'static str]
         ensures { map (λ word. word.now) result.now ≡ meant_words self }
     {
@@ -92,41 +92,40 @@ impl Expected {
     }
 }
 
-/// A class that is open, and its lines so far.
+/// An open class and its lines so far.
 #[derive(Clone, Copy, PartialEq, Eq, Debug)]
 pub struct ClassLines<'a> {
-    /// The name of the class, as it stands in the text.
+    /// The name of the class, as written in the text.
     pub name: &'a [u8],
     /// The line that begins the class, from 1.
     pub line: usize,
-    /// The lines that say its parts.
+    /// The lines of its parts.
     pub parts: PartLines,
 }
 
-/// The first fault of a text that means no model: where it is, what is expected there, and the earlier lines that it has
-/// to do with.
+/// The first fault of a text: where it is, what is expected there, and the earlier lines involved.
 #[derive(Clone, Copy, PartialEq, Eq, Debug)]
 pub struct TextDiagnostic<'a> {
-    /// The line, from 1, as `assemble` answers it.
+    /// The line, from 1, as `assemble` returns it.
     pub line: usize,
-    /// What is wrong with the line, as `assemble` answers it.
+    /// The code, as `assemble` returns it.
     pub code: Code,
-    /// The place of the word at fault among the words of the line, from 0. `None` where the line has no word there, or
-    /// the fault is that of a byte.
+    /// The index of the word at fault among the words of the line, from 0. `None` if the line has no such word, or if the
+    /// fault is a byte.
     pub place: Option<usize>,
     /// What is expected in the place of that word.
     pub expected: Expected,
-    /// Of `DuplicateName` the earlier line that declares the name, and of `WrongPlace` the line that has said this part
-    /// of the class, if one has; `None` of all others.
+    /// For `DuplicateName` the earlier line that declares the name; for `WrongPlace` the earlier line with this part of the
+    /// class, if there is one; otherwise `None`.
     pub earlier: Option<usize>,
-    /// The class that is open before the line, and of `MissingEnd` the class that is open behind it.
+    /// The class that is open before the line; for `MissingEnd` the class that is open after it.
     pub class: Option<ClassLines<'a>>,
 }
 
 /// Why reading gave no model.
 #[derive(Debug, Drop)]
 pub(crate) enum ReadError<'a> {
-    /// There is no memory.
+    /// Memory ran out.
     Memory,
     /// A line of the text is faulty.
     Fault(TextDiagnostic<'a>),

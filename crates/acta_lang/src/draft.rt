@@ -1,5 +1,5 @@
-//! What the lines so far declare: objects and classes under their names, and the class that is open. Names are borrowed
-//! from the text, and copied only when the model is made.
+//! The declarations so far: objects and classes by name, and the open class. Names are borrowed from the text, and copied
+//! only when the model is made.
 
 ghost use Rattle.std.specs.Prelude.{◌≡◌, map, option_and_then, option_map, false, IfOk, OnOk};
 ghost use Rattle.std.specs.Option.{option_map_or, option_or};
@@ -18,7 +18,7 @@ use crate::diagnostic::{ClassLines, Expected};
 use crate::fault::Code;
 use crate::form::Form;
 use crate::names::{Named, add_name, found, is_declared};
-use crate::parsed::Said;
+use crate::parsed::Parsed;
 use crate::parts::PartLines;
 use acta_table::{Class, Items, Kind, MOST_CLASSES, MOST_OBJECTS, Object, Parts};
 use acta_words::read_i32;
@@ -44,7 +44,7 @@ impl ObjectDraft {
 /// A class that is closed, and the line that begins it.
 #[derive(Drop)]
 pub(crate) struct ClosedDraft<A: Allocator> {
-    parsed: Said<A>,
+    parsed: Parsed<A>,
     line: usize,
 }
 
@@ -57,16 +57,16 @@ impl<A: Allocator> ClosedDraft<A> {
     }
 }
 
-/// A class that is open, with the line that begins it and those that say its parts.
+/// An open class, with the line that begins it and the lines of its parts.
 #[derive(Drop)]
 pub(crate) struct ClassDraft<'a, A: Allocator> {
     name: &'a [u8],
-    parsed: Said<A>,
+    parsed: Parsed<A>,
     line: usize,
     parts: PartLines,
 }
 
-/// What some lines declare.
+/// The declarations of the lines so far.
 #[derive(Drop)]
 pub(crate) struct Draft<'a, A: Allocator> {
     objects: Named<'a, ObjectDraft, A>,
@@ -74,7 +74,7 @@ pub(crate) struct Draft<'a, A: Allocator> {
     current: Option<ClassDraft<'a, A>>,
 }
 
-/// The word that stands for a name.
+/// The word in the place of a name.
 pub(crate) fn name_in<'a>(words: &[&'a [u8]]) -> &'a [u8]
     ensures { result.now ≡ name_in (map (λ word. word.now) words.now) }
 {
@@ -84,7 +84,7 @@ pub(crate) fn name_in<'a>(words: &[&'a [u8]]) -> &'a [u8]
     }
 }
 
-/// The word that stands for a first value.
+/// The word in the place of a first value.
 pub(crate) fn value_in<'a>(words: &[&'a [u8]]) -> &'a [u8]
     ensures { result.now ≡ value_in (map (λ word. word.now) words.now) }
 {
@@ -94,7 +94,7 @@ pub(crate) fn value_in<'a>(words: &[&'a [u8]]) -> &'a [u8]
     }
 }
 
-// The first value that a line has, and 0 where it is no number.
+// The first value of the line, or 0 if it is not a number.
 fn first_value(words: &[&[u8]]) -> i32
     ensures { result ≡ first_value (value_in (map (λ word. word.now) words.now)) }
 {
@@ -102,7 +102,7 @@ fn first_value(words: &[&[u8]]) -> i32
 }
 
 impl<'a, A: Allocator + Copy> Draft<'a, A> {
-    /// Before any line. Takes no memory.
+    /// The draft before any line. Does not allocate.
     pub(crate) fn nothing(alloc: A) -> Draft<'a, A>
         ensures abstraction { abstraction result ≡ nothing_yet }
         ensures noted { noted result ≡ nothing_noted }
@@ -128,7 +128,7 @@ impl<'a, A: Allocator + Copy> Draft<'a, A> {
         is_declared(&self.classes, name) || self.is_current(name)
     }
 
-    // Whether the class that is open has this name.
+    // Whether the open class has this name.
     fn is_current(&self, name: &[u8]) -> bool
         ensures { result ≡ option_map_or (λ class. bytes_eq name.now class.name) (abstraction self.now).current false }
     {
@@ -138,7 +138,7 @@ impl<'a, A: Allocator + Copy> Draft<'a, A> {
         }
     }
 
-    /// Whether an earlier line names such an object, or such a class.
+    /// Whether the line declares an object or a class whose name an earlier line has declared.
     #[tactic(auto, unfolding(crate::specs::Faults::duplicate_name))]
     pub(crate) fn duplicate_name(&self, words: &[&'a [u8]], parsed: &Form) -> bool
         ensures { result ≡ duplicate_name (abstraction self.now) (map (λ word. word.now) words.now) parsed.now }
@@ -147,8 +147,7 @@ impl<'a, A: Allocator + Copy> Draft<'a, A> {
         parsed.is_object() && self.has_object(name) || parsed.is_class() && self.has_class(name)
     }
 
-    /// Whether the line stands inside a class and should not, or outside one and should not, or says what its class
-    /// has said already.
+    /// Whether the line is not allowed inside, or not outside, a class, or repeats a part of the open class.
     #[tactic(auto, unfolding(crate::specs::Faults::wrong_place))]
     pub(crate) fn wrong_place(&self, parsed: &Form) -> bool
         ensures { result ≡ wrong_place (abstraction self.now) parsed.now }
@@ -162,7 +161,7 @@ impl<'a, A: Allocator + Copy> Draft<'a, A> {
         }
     }
 
-    /// What is expected of a line in the wrong place.
+    /// What is expected instead of a line in the wrong place.
     pub(crate) fn wrongly_placed(&self, parsed: &Form) -> Expected
         ensures { result ≡ wrongly_placed (abstraction self.now).current parsed.now }
     {
@@ -178,7 +177,7 @@ impl<'a, A: Allocator + Copy> Draft<'a, A> {
         }
     }
 
-    /// What a text lacks whose last line is this: parts of the class that is open, or a class.
+    /// What a text lacks that ends with this line: parts of the open class, or a class.
     pub(crate) fn lacking(&self) -> Expected
         ensures { result ≡ lacking (abstraction self.now).current }
     {
@@ -197,7 +196,7 @@ impl<'a, A: Allocator + Copy> Draft<'a, A> {
             || parsed.is_class() && self.classes.len() >= MOST_CLASSES
     }
 
-    /// Whether a class is open behind the line, and it is the last.
+    /// Whether the line is the last and leaves a class open.
     #[tactic(auto, unfolding(crate::specs::Faults::missing_end, crate::specs::Drafts::extended))]
     pub(crate) fn missing_end(&self, is_last: bool, words: &[&[u8]], parsed: &Form) -> bool
         ensures { result ≡ missing_end is_last (extended (abstraction self.now) (map (λ word. word.now) words.now) parsed.now) }
@@ -210,7 +209,7 @@ impl<'a, A: Allocator + Copy> Draft<'a, A> {
         is_last && is_open
     }
 
-    /// Whether the line ends a class that hasn't said all, or is the last and there is no class.
+    /// Whether the line ends a class without all its parts, or is the last of a text without a class.
     #[tactic(auto, unfolding(crate::specs::Faults::missing_part, crate::specs::Drafts::extended))]
     pub(crate) fn missing_part(&self, is_last: bool, words: &[&[u8]], parsed: &Form) -> bool
         ensures { result ≡ missing_part is_last (abstraction self.now) (extended (abstraction self.now) (map (λ word. word.now) words.now) parsed.now) parsed.now }
@@ -225,7 +224,7 @@ impl<'a, A: Allocator + Copy> Draft<'a, A> {
         }
     }
 
-    /// Whether the line ends a class that commits to parents, and some of whose transactions have none.
+    /// Whether the line ends a class that commits to parents but can start without one.
     #[tactic(auto, unfolding(crate::specs::Faults::heir_without_spawn))]
     pub(crate) fn heir_without_spawn(&self, parsed: &Form) -> bool
         ensures { result ≡ heir_without_spawn (abstraction self.now) parsed.now }
@@ -246,7 +245,7 @@ impl<'a, A: Allocator + Copy> Draft<'a, A> {
         }
     }
 
-    // The line that begins the class of this name that is open.
+    // The line that begins the open class, if it has this name.
     fn current_line(&self, name: &[u8]) -> Option<usize>
         ensures { result ≡ current_line name.now (noted self.now).current }
     {
@@ -272,7 +271,7 @@ impl<'a, A: Allocator + Copy> Draft<'a, A> {
         }
     }
 
-    // The line of the class that is open which has said what a line of this form says.
+    // The line of the open class with the same part as a line of this form.
     fn parsed_line(&self, parsed: &Form) -> Option<usize>
         ensures { result ≡ option_and_then (λ class. part_line parsed.now class.parts) (noted self.now).current }
     {
@@ -282,8 +281,8 @@ impl<'a, A: Allocator + Copy> Draft<'a, A> {
         }
     }
 
-    /// The earlier line that a fault of this code has to do with, at a line of these words, of this form: the line that
-    /// declares the name, or the line that has said the part.
+    /// The earlier line that a fault of this code involves, at a line of these words and this form: the line that declares
+    /// the name, or that has the part.
     pub(crate) fn earlier(&self, words: &[&'a [u8]], parsed: &Form, code: Code) -> Option<usize>
         ensures { result ≡ earlier_noted (noted self.now) (map (λ word. word.now) words.now) parsed.now code }
     {
@@ -300,7 +299,7 @@ impl<'a, A: Allocator + Copy> Draft<'a, A> {
         }
     }
 
-    // The class that is open.
+    // The open class.
     fn open(&self) -> Option<ClassLines<'a>>
         ensures { option_map class_reported result ≡ (noted self.now).current }
     {
@@ -314,8 +313,8 @@ impl<'a, A: Allocator + Copy> Draft<'a, A> {
         }
     }
 
-    /// The class that is open before the line of this number, of these words, of this form. Where the code is `MissingEnd`
-    /// it is the class that is open behind the line, which the line itself may begin.
+    /// The class that is open before the line of this number, words and form. For `MissingEnd`, the class that is open after
+    /// it, which the line itself may begin.
     pub(crate) fn class_at(
         &self,
         number: usize,
@@ -344,7 +343,7 @@ impl<'a, A: Allocator + Copy> Draft<'a, A> {
         add_name(&mut self.objects, name, ObjectDraft { kind, line })
     }
 
-    // Closes the class that is open, if one is.
+    // Closes the open class, if there is one.
     fn close(&mut self) -> Result<(), AllocError>
         requires { is_current_taken (abstraction self.old) ≡ false }
         ensures abstraction { OnOk result (abstraction self.new ≡ with_closed (abstraction self.old) (abstraction self.old).current) }
@@ -364,7 +363,7 @@ impl<'a, A: Allocator + Copy> Draft<'a, A> {
         }
     }
 
-    // Adds what the line of this number says, inside a class, if one is open.
+    // Adds the part on the line of this number to the open class, if there is one.
     fn say(&mut self, number: usize, parsed: &Form) -> Result<(), AllocError>
         ensures abstraction { OnOk result (abstraction self.new ≡ record (abstraction self.old) { current = option_map (with_parsed parsed.now) (abstraction self.old).current }) }
         ensures noted { OnOk result (noted self.new ≡ parsed_noted (noted self.old) number parsed.now) }
@@ -403,7 +402,7 @@ impl<'a, A: Allocator + Copy> Draft<'a, A> {
             Form::Class => {
                 self.current = Some(ClassDraft {
                     name: name_in(words),
-                    parsed: Said::nothing(alloc),
+                    parsed: Parsed::nothing(alloc),
                     line: number,
                     parts: PartLines::none(),
                 });
@@ -414,7 +413,7 @@ impl<'a, A: Allocator + Copy> Draft<'a, A> {
         }
     }
 
-    // The objects, with names of their own.
+    // The objects, with copies of their names.
     fn objects(&self, alloc: A) -> Result<Items<Object<A>, A>, AllocError>
         ensures { IfOk result (λ objects. objects ≡ (abstraction self.now).objects) }
     {
@@ -428,7 +427,7 @@ impl<'a, A: Allocator + Copy> Draft<'a, A> {
         Ok(Items::of(objects))
     }
 
-    // The classes that are closed, with names of their own.
+    // The closed classes, with copies of their names.
     fn classes(&self, alloc: A) -> Result<Items<Class<A>, A>, AllocError>
         ensures { IfOk result (λ classes. classes ≡ (abstraction self.now).classes) }
     {

@@ -1,11 +1,11 @@
-//! What a line says, by its words alone.
+//! The form of a line, determined by its words alone.
 
 ghost use Rattle.std.specs.Prelude.{◌≡◌};
 ghost use Rattle.acta_lang.specs.Faults.{is_object, is_class, is_end};
 
 use acta_table::{AtCommit, Extent, Kinds, Policy, Scope, StartEdge, Starts};
 
-/// The form of a line. A name is the second word of its line, and a first value the fourth; any word can stand there.
+/// The form of a line. The name is the line's second word and the first value its fourth; the form does not check them.
 #[derive(Clone, Copy)]
 pub(crate) enum Form {
     /// No word.

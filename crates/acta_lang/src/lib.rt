@@ -1,6 +1,6 @@
-//! The language of models. A text is read line by line into a draft of the objects and classes that it declares, up
-//! to the first line at which something is wrong; a draft without a fault is a checked model. Of a faulty line there is
-//! the word at fault, and what is expected in its place. And each model has a canonical text, which means it again.
+//! The language of models. A text is read line by line into a draft of its objects and classes, up to the first faulty line;
+//! a draft without a fault becomes a checked model. The diagnostic of a faulty line has the word at fault and what is
+//! expected in its place. Each model has a canonical text, which parses to that model.
 //!
 //! A call that allocates returns `Err` if memory runs out.
 #![tactic(auto)]

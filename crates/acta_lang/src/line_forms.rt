@@ -78,7 +78,7 @@ fn end_form(words: &[&[u8]]) -> Form
     }
 }
 
-// The form of a line of a class, by its first word and those behind it.
+// The form of a line of a class, by its first word and the words after it.
 fn form_in_class(first: &[u8], rest: &[&[u8]]) -> Form
     ensures { result ≡ form_in_class first.now (map (λ word. word.now) rest.now) }
 {
@@ -103,7 +103,7 @@ fn form_in_class(first: &[u8], rest: &[&[u8]]) -> Form
     }
 }
 
-/// The form of a line of these words: the first tells what the others must be.
+/// The form of a line of these words. The first word decides what the others must be.
 pub(crate) fn form_of(words: &[&[u8]]) -> Form
     ensures { result ≡ form_of (map (λ word. word.now) words.now) }
 {

@@ -1,4 +1,4 @@
-//! Names in the order in which they were declared, each with what was declared under it. They are found by a hash.
+//! Declared names in order, each with its value, found by hash.
 
 ghost use Rattle.std.specs.Prelude.{◌≡◌, ◌++◌, ◌∷◌, [], false, OnOk};
 ghost use Rattle.std.specs.Map.{lookup};
@@ -11,10 +11,10 @@ use indexmap::IndexMap;
 use std::alloc::{AllocError, Allocator};
 use std::hash::{BuildHasherDefault, FoldHasher};
 
-/// What is named, by the names as they stand in the text.
+/// Values by their names, which are borrowed from the text.
 pub(crate) type Named<'a, V, A> = IndexMap<&'a [u8], V, BuildHasherDefault<FoldHasher>, A>;
 
-/// Whether something has this name. Takes no memory.
+/// Whether something has this name. Does not allocate.
 pub(crate) fn is_declared<'a, V, A: Allocator + Copy>(
     named: &Named<'a, V, A>,
     name: &'a [u8],
@@ -24,7 +24,7 @@ pub(crate) fn is_declared<'a, V, A: Allocator + Copy>(
     named.contains_key(&name)
 }
 
-/// What was declared under this name. Takes no memory.
+/// The value declared under this name. Does not allocate.
 pub(crate) fn found<'b, 'a, V, A: Allocator + Copy>(
     named: &'b Named<'a, V, A>,
     name: &'a [u8],
@@ -34,7 +34,7 @@ pub(crate) fn found<'b, 'a, V, A: Allocator + Copy>(
     named.get(&name)
 }
 
-/// Declares it behind all others.
+/// Appends a declaration.
 pub(crate) fn add_name<'a, V: Drop, A: Allocator + Copy>(
     named: &mut Named<'a, V, A>,
     name: &'a [u8],

@@ -1,4 +1,4 @@
-//! The line of an object, written behind a text.
+//! Writes the line of an object.
 
 ghost use Rattle.std.specs.Prelude.{◌≡◌, ◌++◌, ◌∷◌, [], OnOk};
 ghost use Rattle.acta_lang.specs.Canonical.{kind_words, object_words};
@@ -9,7 +9,7 @@ use acta_table::{Kind, Object};
 use acta_words::{push_integer, push_word};
 use std::alloc::{AllocError, Allocator};
 
-// The words behind `object NAME`.
+// The words after `object NAME`.
 fn push_kind<A: Allocator>(text: &mut Vec<u8, A>, kind: Kind) -> Result<(), AllocError>
     ensures { OnOk result (text.new.items ≡ text.old.items ++ spaced (kind_words kind)) }
 {
@@ -27,7 +27,7 @@ fn push_kind<A: Allocator>(text: &mut Vec<u8, A>, kind: Kind) -> Result<(), Allo
     Ok(())
 }
 
-/// Writes the line of the object behind the text.
+/// Appends the line of the object to the text.
 pub(crate) fn push_object<A: Allocator>(
     text: &mut Vec<u8, A>,
     object: &Object<A>,

@@ -1,4 +1,4 @@
-//! What the lines of a class have said so far.
+//! The parts of a class that its lines have given so far.
 
 ghost use Rattle.std.specs.Prelude.{◌≡◌, ℕ, List, IfOk, OnOk};
 ghost use Rattle.acta_table.specs.Faults.{lacks_parents};
@@ -11,9 +11,9 @@ use acta_table::{
 };
 use std::alloc::{AllocError, Allocator};
 
-/// What a class has said so far: each of six things at most once, and edges as often as it likes.
+/// The parts given so far: each of the six at most once, and any number of edges.
 #[derive(Drop)]
-pub(crate) struct Said<A: Allocator> {
+pub(crate) struct Parsed<A: Allocator> {
     starts: Option<Starts>,
     may: Option<Kinds>,
     scope: Option<Scope>,
@@ -31,12 +31,12 @@ const UNSTARTED: Starts = Starts {
     split: false,
 };
 
-impl<A: Allocator + Copy> Said<A> {
-    /// Nothing. Takes no memory.
-    pub(crate) fn nothing(alloc: A) -> Said<A>
+impl<A: Allocator + Copy> Parsed<A> {
+    /// No parts. Does not allocate.
+    pub(crate) fn nothing(alloc: A) -> Parsed<A>
         ensures { (name : List ℕ) → class_shown name result ≡ opened name }
     {
-        Said {
+        Parsed {
             starts: None,
             may: None,
             scope: None,
@@ -48,7 +48,7 @@ impl<A: Allocator + Copy> Said<A> {
         }
     }
 
-    /// Adds what a line of this form says.
+    /// Adds the part of a line of this form.
     pub(crate) fn add(&mut self, parsed: &Form) -> Result<(), AllocError>
         ensures { OnOk result ((name : List ℕ) → class_shown name self.new ≡ with_parsed parsed.now (class_shown name self.old)) }
     {
@@ -66,7 +66,7 @@ impl<A: Allocator + Copy> Said<A> {
         Ok(())
     }
 
-    /// Whether what a line of this form says has been said already; an edge may be said again.
+    /// Whether the part of a line of this form has been given already; an edge may be repeated.
     pub(crate) fn has(&self, parsed: &Form) -> bool
         ensures { (name : List ℕ) → result ≡ has_part parsed.now (class_shown name self.now) }
     {
@@ -81,7 +81,7 @@ impl<A: Allocator + Copy> Said<A> {
         }
     }
 
-    /// Whether all six have been said.
+    /// Whether all six parts have been given.
     pub(crate) fn is_all(&self) -> bool
         ensures { (name : List ℕ) → result ≡ has_all_parts (class_shown name self.now) }
     {
@@ -93,7 +93,7 @@ impl<A: Allocator + Copy> Said<A> {
             && self.extent.is_some()
     }
 
-    /// Whether the class commits to parents, and some of its transactions have none.
+    /// Whether the class commits to parents but can start without one.
     pub(crate) fn lacks_parents(&self) -> bool
         ensures { (name : List ℕ) → result ≡ lacks_parents {A = A} (closed (class_shown name self.now)) }
     {
@@ -101,8 +101,8 @@ impl<A: Allocator + Copy> Said<A> {
         matches!(self.at_commit, Some(AtCommit::ToParent)) && (starts.begin || starts.split)
     }
 
-    /// The class of this name that has said this. What stands in for something that it hasn't said never counts: a
-    /// class that is closed has said all.
+    /// The class of this name with these parts. The defaults for missing parts are never used: a class is closed only if it
+    /// has all.
     pub(crate) fn class(&self, alloc: A, name: &[u8]) -> Result<Class<A>, AllocError>
         ensures { IfOk result (λ class. class ≡ closed (class_shown name.now self.now)) }
     {

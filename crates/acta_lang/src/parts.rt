@@ -1,11 +1,11 @@
-//! The six parts of a class, each with the line that says it.
+//! The six parts of a class, each with its line.
 
 ghost use Rattle.std.specs.Prelude.{◌≡◌};
 ghost use Rattle.acta_lang.specs.Lines.{no_lines, part_line, with_line};
 
 use crate::form::Form;
 
-/// The line of each of the six parts of a class, from 1; `None` for a part that no line of the class has said.
+/// The line of each of the six parts of a class, from 1; `None` for a part without a line so far.
 #[derive(Clone, Copy, PartialEq, Eq, Debug)]
 pub struct PartLines {
     /// The line that begins with `starts`.
@@ -23,7 +23,7 @@ pub struct PartLines {
 }
 
 impl PartLines {
-    /// No part has been said.
+    /// No part has a line.
     pub(crate) fn none() -> PartLines
         ensures { result ≡ no_lines }
     {
@@ -37,7 +37,7 @@ impl PartLines {
         }
     }
 
-    /// Notes that the line of this number, of this form, says its part, if it says one.
+    /// Notes that the line of this number and form gives its part, if it gives one.
     pub(crate) fn add(&mut self, parsed: &Form, number: usize)
         ensures { self.new ≡ with_line parsed.now number self.old }
     {
@@ -52,7 +52,7 @@ impl PartLines {
         }
     }
 
-    /// The line that has said the part which a line of this form says.
+    /// The earlier line with the same part as a line of this form.
     pub(crate) fn line_of(&self, parsed: &Form) -> Option<usize>
         ensures { result ≡ part_line parsed.now self.now }
     {

@@ -1,4 +1,4 @@
-//! Where a faulty line is wrong: the place of the word at fault, and what is expected there.
+//! Where a faulty line is wrong: the index of the word at fault, and what is expected there.
 
 ghost use Rattle.std.specs.Prelude.{◌≡◌, ◌<◌, length, map, not, IfSome};
 ghost use Rattle.std.specs.List.{position_from};
@@ -20,7 +20,7 @@ use crate::words::{
 use acta_table::Dep;
 use std::alloc::Allocator;
 
-// The word at this place of the line, or the empty word where the line has none there.
+// The word at this place of the line, or the empty word if the line has none there.
 fn word_at<'a>(words: &[&'a [u8]], place: usize) -> &'a [u8]
     ensures { result.now ≡ word_at (map (λ word. word.now) words.now) place }
 {
@@ -48,7 +48,7 @@ fn is_policy_kind(word: &[u8]) -> bool
     matches!(dep_named(word), Some(Dep::Cd | Dep::Ad | Dep::Wd | Dep::Td))
 }
 
-// Whether the word may stand where this is expected, in lines that take any number of such words.
+// Whether the word is allowed where this is expected, in lines that take any number of such words.
 fn may_stand(expected: Expected, word: &[u8]) -> bool
     ensures { result ≡ may_stand expected word.now }
 {
@@ -64,7 +64,7 @@ fn may_stand(expected: Expected, word: &[u8]) -> bool
     }
 }
 
-// The position of the first of these words that may not stand where this is expected.
+// The position of the first of these words that is not allowed where this is expected.
 fn first_stray(expected: Expected, words: &[&[u8]]) -> Option<usize>
     ensures first { result ≡ position_from (λ word. not (may_stand expected word.now)) 0 words.now }
     ensures within { IfSome result (λ place. place < length words.now) }
@@ -72,8 +72,8 @@ fn first_stray(expected: Expected, words: &[&[u8]]) -> Option<usize>
     words.iter().position(|word| !may_stand(expected, word))
 }
 
-// The place in the line of the first word that may not stand where this is expected, of the words from place `from` on.
-// Where each may stand there, a word lacks at place 2, or is one too many.
+// The place in the line of the first word from place `from` on that is not allowed where this is expected. If all are
+// allowed, the missing or surplus word is at place 2.
 fn stray(expected: Expected, from: u8, words: &[&[u8]]) -> usize
     ensures { result ≡ stray expected from (map (λ word. word.now) words.now) }
 {
@@ -89,8 +89,7 @@ fn is_object_kind(word: &[u8]) -> bool
     word == REGISTER.as_bytes() || word == COUNTER.as_bytes() || word == SET.as_bytes()
 }
 
-// The place of the word at fault in an object's line that has no form, by the words behind `object`, and what is expected
-// there.
+// The word at fault in an object's line without a form, and what is expected there; `words` are those after `object`.
 fn bad_object(words: &[&[u8]]) -> (usize, Expected)
     ensures { result ≡ bad_object (map (λ word. word.now) words.now) }
 {
@@ -106,8 +105,7 @@ fn bad_object(words: &[&[u8]]) -> (usize, Expected)
     }
 }
 
-// The place of the word at fault in a policy's line that has no form, by the words behind `policy`, and what is expected
-// there.
+// The word at fault in a policy's line without a form, and what is expected there; `words` are those after `policy`.
 fn bad_policy(words: &[&[u8]]) -> (usize, Expected)
     ensures { result ≡ bad_policy (map (λ word. word.now) words.now) }
 {
@@ -129,8 +127,8 @@ fn is_edge_end(word: &[u8]) -> bool
     word == STARTER.as_bytes() || word == STARTED.as_bytes()
 }
 
-// The place of the word at fault in an edge's line that has no form, and what is expected there. The caller names what is
-// expected of its first end, its kind and its other end: an edge at a spawn and one at a split differ there.
+// The word at fault in an edge's line without a form, and what is expected there. The caller gives the expectations for the
+// first end, the kind and the other end, which differ between spawn and split.
 fn bad_edge(words: &[&[u8]], end: Expected, kind: Expected, other: Expected) -> (usize, Expected)
     ensures { result ≡ bad_edge end kind other (map (λ word. word.now) words.now) }
 {
@@ -147,8 +145,7 @@ fn bad_edge(words: &[&[u8]], end: Expected, kind: Expected, other: Expected) -> 
     }
 }
 
-// The place of the word at fault in a line that has no form, of those with a list of words or one word behind the first,
-// and what is expected there.
+// The word at fault in a line without a form whose first word takes one word or a list of words, and what is expected there.
 fn bad_class_line(first: &[u8], words: &[&[u8]]) -> (usize, Expected)
     ensures { result ≡ bad_class_line first.now (map (λ word. word.now) words.now) }
 {
@@ -169,7 +166,7 @@ fn bad_class_line(first: &[u8], words: &[&[u8]]) -> (usize, Expected)
     }
 }
 
-// The place of the word at fault in a line that has no form, and what is expected there.
+// The word at fault in a line without a form, and what is expected there.
 fn bad_word(words: &[&[u8]]) -> (usize, Expected)
     ensures { result ≡ bad_word_place (map (λ word. word.now) words.now) }
 {
@@ -201,8 +198,8 @@ fn bad_word(words: &[&[u8]]) -> (usize, Expected)
     }
 }
 
-// The place of the first kind by which no class may depend, in a policy's line; and where all may, the place of the kind
-// that the policy lacks.
+// In a policy's line, the place of the first kind that a policy may not form; if all are allowed, the place of the missing
+// kind.
 fn policy_place(words: &[&[u8]]) -> usize
     ensures { result ≡ policy_place (map (λ word. word.now) words.now) }
 {
@@ -212,14 +209,14 @@ fn policy_place(words: &[&[u8]]) -> usize
     }
 }
 
-// The offset of the first byte that no line has, if there is one.
+// The offset of the first byte that no line may have, if there is one.
 fn first_not_plain(line: &[u8]) -> Option<usize>
     ensures { result ≡ position_from (λ b. not (is_printable b)) 0 line.now }
 {
     line.iter().position(|b| !is_plain(*b))
 }
 
-// The offset of the first byte that no line has, or 0 where the line has no such byte.
+// The offset of the first byte that no line may have, or 0 if there is none.
 fn stray_byte(line: &[u8]) -> usize
     ensures { result ≡ stray_byte line.now }
 {
@@ -229,8 +226,7 @@ fn stray_byte(line: &[u8]) -> usize
     }
 }
 
-/// The place of the word at fault, in a line of these words, of this form, which has this code; and what is expected
-/// there.
+/// The place of the word at fault in a line of these words and this form with this code, and what is expected there.
 pub(crate) fn place_of<'a, A: Allocator + Copy>(
     draft: &Draft<'a, A>,
     line: &[u8],

@@ -1,4 +1,4 @@
-//! The words behind `policy`.
+//! The words after `policy`.
 
 ghost use Rattle.std.specs.Prelude.{◌≡◌, map};
 ghost use Rattle.acta_lang.specs.Forms.{policy_form, depend_form};
@@ -21,7 +21,7 @@ fn depend_form(words: &[&[u8]]) -> Form
     Form::Policy(Policy::Depend(kinds))
 }
 
-/// `refuse`, `depend [KIND]...`, behind `policy`
+/// `refuse`, `depend [KIND]...`, after `policy`
 pub(crate) fn policy_form(words: &[&[u8]]) -> Form
     ensures { result ≡ policy_form (map (λ word. word.now) words.now) }
 {

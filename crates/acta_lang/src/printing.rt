@@ -32,15 +32,15 @@ fn push_classes<A: Allocator>(text: &mut Vec<u8, A>, classes: &[Class<A>]) -> Re
     Ok(())
 }
 
-// The canonical text of a model means the model.
+// The canonical text of a model parses to that model.
 fn means_again<A: Allocator>(model: &Model<A>)
     ensures { meaning (canonical model.now) ≡ Ok model.now }
 {
     model.lemma_invariant();
 }
 
-/// The canonical text of the model: its objects, then its classes, in order, with one space between words and a line
-/// feed behind each line. It means the model again.
+/// The canonical text of the model: its objects, then its classes, in order, with one space between words and a line feed
+/// after each line. It parses to the same model.
 pub fn print_model<A: Allocator + Copy>(
     alloc: A,
     model: &Model<A>,

@@ -1,4 +1,4 @@
-//! The codes of texts in words: what each is called, and what it says in a sentence.
+//! The name of each code, and a sentence that explains it.
 
 use crate::fault::Code;
 use std::error::Error;
@@ -23,7 +23,7 @@ impl Code {
         }
     }
 
-    /// When a line of a text has the code, in a sentence.
+    /// A sentence that says when a line has the code.
     pub fn sentence(self) -> &'static str {
         match self {
             Code::NotAscii => {

@@ -1,4 +1,4 @@
-//! The words of the language, and what they stand for: one table for reading and for printing.
+//! The words of the language and their values: one table for reading and for printing.
 
 ghost use Rattle.std.specs.Prelude.{◌≡◌, map};
 ghost use Rattle.acta_words.specs.Text.{is_word_among};
@@ -8,7 +8,7 @@ ghost use Rattle.acta_lang.specs.Words.{start_words, may_word, may_named, dep_na
 use crate::diagnostic::Expected;
 use acta_table::{AtCommit, Dep, EventKind, Extent, Scope};
 
-// The words with which lines begin. Some of them stand elsewhere too.
+// The words with which lines begin. Some are used elsewhere too.
 pub(crate) const OBJECT: &str = "object";
 
 pub(crate) const CLASS: &str = "class";
@@ -70,7 +70,7 @@ pub(crate) fn is_among(words: &[&[u8]], word: &[u8]) -> bool
     words.iter().any(|other| word == *other)
 }
 
-/// Whether the word says how a transaction may start.
+/// Whether the word names a way to start.
 pub(crate) fn is_start(word: &[u8]) -> bool
     ensures { result ≡ is_word_among start_words word.now }
 {
@@ -135,7 +135,7 @@ pub(crate) fn scope_named(word: &[u8]) -> Option<Scope>
         .find(|scope| word == scope_word(*scope).as_bytes())
 }
 
-/// The word of what becomes of operations at a commit.
+/// The word of what a commit does.
 pub(crate) fn commit_word(at_commit: AtCommit) -> &'static str
     ensures { result.now ≡ commit_word at_commit }
 {
@@ -145,7 +145,7 @@ pub(crate) fn commit_word(at_commit: AtCommit) -> &'static str
     }
 }
 
-/// What a word says becomes of operations at a commit.
+/// What a commit does, by its word.
 pub(crate) fn commit_named(word: &[u8]) -> Option<AtCommit>
     ensures { result ≡ commit_named word.now }
 {
@@ -155,7 +155,7 @@ pub(crate) fn commit_named(word: &[u8]) -> Option<AtCommit>
         .find(|at_commit| word == commit_word(*at_commit).as_bytes())
 }
 
-/// The word of how much is handed over.
+/// The word of how much a delegation transfers.
 pub(crate) fn extent_word(extent: Extent) -> &'static str
     ensures { result.now ≡ extent_word extent }
 {
@@ -165,7 +165,7 @@ pub(crate) fn extent_word(extent: Extent) -> &'static str
     }
 }
 
-/// How much is handed over, by its word.
+/// How much a delegation transfers, by its word.
 pub(crate) fn extent_named(word: &[u8]) -> Option<Extent>
     ensures { result ≡ extent_named word.now }
 {
@@ -190,7 +190,7 @@ const KIND_WORDS: [&str; 12] = [
     "CD", "SCD", "AD", "WD", "TD", "ED", "CMD", "BD", "SD", "BCD", "BAD", "WCD",
 ];
 
-/// The words of the language that can stand in the place of a word that is none of them.
+/// The words of the language that are allowed where this is expected.
 pub(crate) fn meant_words(expected: Expected) -> &'static [&'static str]
     ensures { map (λ word. word.now) result.now ≡ meant_words expected }
 {

@@ -46,7 +46,7 @@ kept-grows {A} s t b seat event kept room next follows = record {
   follows = follows;
 }
 
--- a book that is opened is kept
+-- a new book satisfies its invariant
 pub kept-opened : {A : Type 0} (m : Parts A) (s : State A) (es : List (Entry A)) → s ≡ fresh m → es ≡ [] → FollowsPlaces s → IsMachineOf s (record { model = s.model; entries = es })
 kept-opened {A} m s es is none follows =
     let start : IsMachineOf (fresh m) (record { model = m; entries = [] }) = record {
@@ -79,7 +79,7 @@ module _ {A : Type 0} (s t : State A) (es roomy grown : List (Entry A)) (made se
       λ i. pushed (counted i) seat (copied i) ((answered ∙ ap (λ (x : State A). answer_to x event) inside.shows) i) in
       λ i. record { model = model-same i; entries = (push ∙ ap (λ (x : Entry A). es ++ x ∷ []) entry) i }
 
-  -- what a call leaves is kept
+  -- the book after a call satisfies its invariant
   pub take-kept : IsMachineOf s before → (b : Entries A) → before ≡ b → length b.entries < MOST_EVENTS → FollowsPlaces t → IsMachineOf t (record { model = t.model; entries = grown })
   take-kept inside b view room follows =
       let free : length es < MOST_EVENTS = subst (λ (x : Entries A). length x.entries < MOST_EVENTS) (sym view) room in
@@ -89,7 +89,7 @@ module _ {A : Type 0} (s t : State A) (es roomy grown : List (Entry A)) (made se
   pub take-adds : IsMachineOf s before → (b : Entries A) → before ≡ b → record { model = t.model; entries = grown } ≡ entered b (entry_of b seat event)
   take-adds inside b view = grown-book inside ∙ ap (λ (x : Entries A). entered x (entry_of x seat event)) view
 
--- an entry that a book makes is that of a run
+-- an entry that a book adds is that of a run
 pub of-some-run : {A E : Type 0} (r : Result (Entry A) E) (m : Parts A) (seat : ℕ) (event : Event A) (b grown : Entries A) → b.model ≡ m → IfOk r (λ e. e ≡ entry_of b seat event) → IfOk r (λ e. grown ≡ entered b e) → IsRun grown → IfOk r (IsOfSomeRun m seat event)
 of-some-run (Ok e) m seat event b grown of is more run = (b, of, is, subst IsRun more run)
 of-some-run (Err x) m seat event b grown of is more run = tt

@@ -1,4 +1,4 @@
--- What the workers hand back, put together.
+-- The results of the workers, combined.
 use Rattle.std.proofs.Common.{◌≡◌, ℕ, suc, ◌-◌, ◌≤◌, false, List, [], ◌∷◌, length, get_or, refl, sym, subst, arith}
 use Rattle.std.specs.Prelude.{Result, Ok, Err, IfOk, sum_by}
 use Rattle.acta_table.specs.declared.event.Event.{Event}
@@ -16,7 +16,7 @@ let_on-weaker : {X : Type 0} (P pass : ℕ → Type 0) (Q go_on : ℕ → X → 
 let_on-weaker P pass Q go_on p q k [] all = tt
 let_on-weaker P pass Q go_on p q k (e ∷ es) all = (p k all.0, q k e all.1, let_on-weaker P pass Q go_on p q (suc k) es all.2)
 
--- what a worker answered is an outcome of its seat
+-- a worker's result is an outcome of its seat
 module _ {A : Type 0} (S P : ℕ → ℕ → Type 0) (Q : ℕ → ℕ → Entry A → Type 0) (stop pass : ℕ → ℕ → Type 0) (go_on : ℕ → ℕ → Entry A → Type 0) (seat : ℕ) (script : List (Event A)) (of : IsOfGate S P Q stop pass go_on) where
   outcome : (r : Result (Report A) WorkError) → IfOk r (λ report. IsReport (λ e. e.seat) (λ e. e.event) seat script report) → IfOk r (λ report. LetOn (P seat) (Q seat) 1 report.entries)
       → ((n : ℕ) → r ≡ Err (GaveUp n) → n ≡ seat) → ((n : ℕ) → r ≡ Err (GaveUp n) → (k : ℕ) × (1 ≤ k) × (k ≤ length script) × S n k)
@@ -33,7 +33,7 @@ module _ {A : Type 0} (S P : ℕ → ℕ → Type 0) (Q : ℕ → ℕ → Entry 
       → IsOutcome stop pass go_on seat given r
   outcome-of given r same reports let_on gave_up stopped = subst (λ s. IsOutcome stop pass go_on seat s r) same (outcome r reports let_on gave_up stopped)
 
--- a worker without a report says why the run has no result
+-- a worker without a report determines the run's error
 fault-late : (w : WorkError) → is_of_scripts (fault_by w) ≡ false
 fault-late (GaveUp n) = refl
 fault-late BookFull = refl

@@ -10,7 +10,7 @@ use Rattle.acta_machine.specs.Table.{State, debts_in, run_state}
 use Rattle.acta_machine.proofs.Exactness.{owed-places}
 use Rattle.acta_machine.proofs.Runs.{follows-run, model-run}
 
--- a machine that follows its places has no fault to be judged, and owes what it shows
+-- the verdict on a machine's history has no fault, and the machine's debts
 pub judged : {A : Type 0} (s : State A) → FollowsPlaces s → verdict s.model s.kept ≡ record { faults = []; owed = debts_in s }
 judged s follows =
     met-verdict s.model s.kept follows.meets

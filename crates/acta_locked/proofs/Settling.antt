@@ -38,7 +38,7 @@ part-other seat es report i next e lt at other so =
     ∙ (λ j. so j ++ none seat e other j)
     ∙ append-nil (take next report)
 
--- where a report is the part of the seat, the next entry of the seat is the next of the report
+-- if a report is the part of the seat, the next entry of the seat is the next of the report
 pub part-next : {A : Type 0} (seat : ℕ) (es report : List (Entry A)) (i next : ℕ) (e : Entry A) → i < length es → e ≡ get_or es i e → e.seat ≡ seat → seat_part seat (take i es) ≡ take next report → next ≤ length report → report ≡ seat_part seat es → (next < length report) × (e ≡ get_or report next e)
 part-next {A} seat es report i next e lt at mine so within all =
     let front = take next report in
@@ -80,7 +80,7 @@ parts-count {A} b seat (s ∷ ss) (r ∷ rs) h =
     sum_by-cons (λ (x : Report A). length x.entries) r rs ∙ ap₂ (λ x y. x + y) one (parts-count b (suc seat) ss rs h.1)
     ∙ sym (sum_by-cons (λ (x : List (Event A)). length x) s ss)
 
--- what a driven run is, from what was looked at
+-- a driven run, from the checks made
 pub is-driven : {A : Type 0} (m : Parts A) (scripts : List (List (Event A))) (book kept : Entries A) (reports shown : List (Report A)) (amount : ℕ)
     → book.model ≡ m → IsRun kept → kept ≡ book → length book.entries ≡ amount
     → amount ≡ sum_by (λ (r : Report A). length r.entries) reports → shown ≡ reports → AreParts book 1 scripts reports

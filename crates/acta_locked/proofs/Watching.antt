@@ -1,4 +1,4 @@
--- Fronts stay fronts as more is seen.
+-- Fronts stay fronts as the history grows.
 use Rattle.std.proofs.Common.{◌≡◌, ℕ, ◌≤◌, List, [], ◌∷◌, ◌++◌, length, ap, sym, ◌∙◌, arith, subst, length-append}
 use Rattle.std.proofs.lemmas.List.{take-append-le}
 use Rattle.std.proofs.Math.Seq.{take-length}
@@ -26,7 +26,7 @@ each-later m h more (f ∷ fs) each =
       each-later m h more fs each.1,
     )
 
--- what is seen later begins with what was seen
+-- a later copy begins with the earlier one
 pub fronts-later : {A : Type 0} (m : Parts A) (h whole more : List (Kept A)) (fs : List (Front A)) → AreFronts m h fs → whole ≡ h ++ more → AreFronts m whole fs
 fronts-later m h whole more fs are is =
     subst (λ g. AreFronts m g fs) (sym is) (record { each = each-later m h more fs are.each; rising = are.rising })
@@ -56,7 +56,7 @@ fronts-more m h more fs are clean =
       rising = rising-more m h fs (front_of m now) are.each are.rising (omega (arith, long));
     }
 
--- one more front, of a copy that begins with what was seen
+-- one more front, of a copy that begins with the earlier one
 pub fronts-add : {A : Type 0} (m : Parts A) (h copy more : List (Kept A)) (fs fs' : List (Front A)) (n : ℕ) (v : Verdict A) → AreFronts m h fs → copy ≡ h ++ more → v ≡ verdict m copy → v.faults ≡ []
     → n ≡ length copy → fs' ≡ fs ++ record { length = n; verdict = v } ∷ [] → AreFronts m copy fs'
 fronts-add {A} m h copy more fs fs' n v are is judged clean counted grown =

@@ -1,4 +1,4 @@
--- What a book is: entries that are a run of their events.
+-- A book: entries that are a run of their events.
 use Rattle.std.specs.Prelude.{◌≡◌, ◌+◌, ◌≤◌, ◌==◌, ℕ, List, [], ◌∷◌, ◌++◌, length, map, filter}
 use Rattle.std.specs.List.{range_with_len}
 use Rattle.acta_table.specs.declared.answer.Answer.{Answer}
@@ -8,12 +8,12 @@ use Rattle.acta_table.specs.declared.model.Parts.{Parts}
 use Rattle.acta_machine.specs.Table.{State, answer_to, run_answers, run_state}
 use Rattle.acta_locked.specs.declared.book.Entry.{Entry}
 
--- what a book is seen as: a model, and the entries in order
+-- the abstract value of a book: a model, and the entries in order
 pub record Entries (A : Type 0) : Type 0 where
   pub model : Parts A
   pub entries : List (Entry A)
 
--- a book with no entry
+-- a book without entries
 abbrev pub no_entries : {A : Type 0} → Parts A → Entries A
 no_entries m = record { model = m; entries = [] }
 
@@ -27,11 +27,11 @@ answers_of es = map (λ e. e.answer) es
 abbrev pub numbers_of : {A : Type 0} → List (Entry A) → List ℕ
 numbers_of es = map (λ e. e.number) es
 
--- the machine that the entries leave: the one after a run of their events
+-- the machine after a run of the entries' events
 abbrev pub state_of : {A : Type 0} → Entries A → State A
 state_of b = run_state b.model (events_of b.entries)
 
--- the kth entry has the number k, the answers are those of a run of the events, and there are at most 65,536
+-- the kth entry has the number k, the answers are those of a run of the events, and there are at most 65,536 entries
 pub record IsRun {A : Type 0} (b : Entries A) : Type 0 where
   pub numbered : numbers_of b.entries ≡ range_with_len 1 (length b.entries)
   pub answered : answers_of b.entries ≡ run_answers b.model (events_of b.entries)
@@ -50,7 +50,7 @@ entry_of b seat event = record {
 abbrev pub entered : {A : Type 0} → Entries A → Entry A → Entries A
 entered b e = record b { entries = b.entries ++ e ∷ [] }
 
--- the book with these entries more
+-- the book with these entries added
 abbrev pub with_entries : {A : Type 0} → Entries A → List (Entry A) → Entries A
 with_entries b es = record b { entries = b.entries ++ es }
 

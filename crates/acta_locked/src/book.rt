@@ -1,4 +1,4 @@
-//! The book, and a desk with a book of its own.
+//! The book, and a desk with its own book.
 
 ghost use Rattle.std.specs.Prelude.{◌≡◌, ◌<◌, ◌≤◌, ◌∷◌, List, [], Err, None, length, true, false, Decides, IfOk, OnErr, OnOk};
 ghost use Rattle.acta_table.specs.declared.event.Event.{Event};
@@ -17,7 +17,7 @@ use acta_table::{Answer, Event, Kept, MOST_EVENTS, Model};
 use std::alloc::{AllocError, AllocFailed, Allocator};
 use std::thread::Threads;
 
-/// What a call at a desk came to: its number in the book, from 1, the seat that made it, the event and the answer.
+/// One call at a desk: its number in the book, from 1, the seat, the event and the answer.
 #[derive(Drop)]
 pub struct Entry<A: Allocator> {
     pub number: u32,
@@ -39,7 +39,7 @@ impl<A: Allocator> Entry<A> {
 }
 
 impl<A: Allocator + Copy> Entry<A> {
-    /// The same entry, in memory of its own.
+    /// A copy of the entry in memory of its own.
     pub fn copy(&self) -> Result<Entry<A>, AllocError>
         ensures { IfOk result (λ entry. entry ≡ self.now) }
     {
@@ -57,7 +57,7 @@ impl<A: Allocator + Copy> Entry<A> {
 pub enum TakeError {
     /// The book has 65,536 entries.
     BookFull,
-    /// There is no memory.
+    /// Memory ran out.
     Memory,
 }
 
@@ -77,8 +77,8 @@ impl<T: Drop> From<AllocFailed<T>> for TakeError {
     }
 }
 
-/// A machine, and every call that was made of it, in order, with its answer. Contracts see the model and the entries:
-/// the machine is what they leave.
+/// A machine with a log of every call made of it, in order, with its answer. Contracts see the model and the entries, which
+/// determine the machine.
 #[derive(Drop)]
 pub struct Book<A: Handle> {
     machine: Machine<A>,
@@ -97,7 +97,7 @@ impl<A: Handle> std::marker::Model for Book<A> {
 }
 
 impl<A: Handle> Book<A> {
-    /// A book on the model, with no entry.
+    /// A book on the model without entries.
     pub fn new(alloc: A, model: Model<A>) -> Result<Book<A>, AllocError>
         ensures { IfOk result (λ book. book ≡ no_entries model) }
     {
@@ -107,8 +107,8 @@ impl<A: Handle> Book<A> {
         })
     }
 
-    /// Takes one event: the machine answers it, and the book has one more entry, which is answered. `BookFull` comes at
-    /// 65,536 entries and only there. An error leaves the book as it was.
+    /// Takes one event: the machine answers it, and the new entry is added and returned. Returns `BookFull` exactly if there
+    /// are 65,536 entries. An error leaves the book unchanged.
     pub fn take(&mut self, seat: u8, event: Event<A>) -> Result<Entry<A>, TakeError>
         ensures entry { IfOk result (λ entry. entry ≡ entry_of self.old seat event) }
         ensures ok { IfOk result (λ entry. self.new ≡ entered self.old entry) }
@@ -138,8 +138,8 @@ impl<A: Handle> Book<A> {
         self.entries.len() >= MOST_EVENTS
     }
 
-    // Has the machine answer the event, and enters it: the number and the answer of the entry. The room is made first,
-    // so that an error leaves the book as it was.
+    // Has the machine answer the event, and logs it; returns the number and the answer of the entry. Room is reserved first,
+    // so that an error leaves the book unchanged.
     fn enter(&mut self, seat: u8, event: &Event<A>) -> Result<(u32, Answer), AllocError>
         requires room { length self.old.entries < MOST_EVENTS }
         ensures entry { IfOk result (λ r.
@@ -164,7 +164,7 @@ impl<A: Handle> Book<A> {
         Ok((number, answer))
     }
 
-    /// A copy of the history that the machine keeps, on which a verdict has no fault.
+    /// A copy of the machine's history, in which a verdict finds no fault.
     pub fn history(&self, alloc: A) -> Result<Vec<Kept<A>, A>, AllocError>
         ensures all { IfOk result (λ copy. copy.items ≡ (state_of self.now).kept) }
         ensures few { IfOk result (λ copy. length copy.items ≤ MOST_EVENTS) }
@@ -186,7 +186,7 @@ impl<A: Handle> Book<A> {
         self.entries.as_slice()
     }
 
-    /// The machine as the entries leave it.
+    /// The machine after the entries.
     pub fn machine(&self) -> &Machine<A>
         ensures machine { result.now ≡ state_of self.now }
         ensures model { result.now.model ≡ self.now.model }
@@ -197,7 +197,7 @@ impl<A: Handle> Book<A> {
 }
 
 impl<A: Handle + Send + Sync> Book<A> {
-    /// The verdict on the history that the machine keeps: it has no fault, and what is owed is what the machine owes.
+    /// The verdict on the machine's history: it has no fault, and its debts are those of the machine.
     pub fn verdict<R: Threads + Sync>(&self, rt: &R) -> Result<Verdict<A>, AllocError>
         ensures { IfOk result (λ verdict. verdict ≡ record { faults = []; owed = debts_in (state_of self.now) }) }
     {
@@ -219,7 +219,7 @@ pub struct PlainDesk<A: Handle> {
 }
 
 impl<A: Handle> PlainDesk<A> {
-    /// A desk at this seat, with a book on the model that has no entry.
+    /// A desk at this seat, with a book on the model without entries.
     pub fn new(alloc: A, seat: u8, model: Model<A>) -> Result<PlainDesk<A>, AllocError>
         ensures { IfOk result (λ desk. desk ≡ record { seat = seat; book = no_entries model }) }
     {
@@ -271,8 +271,8 @@ impl<A: Handle> Desk<Event<A>, Entry<A>> for PlainDesk<A> {
     ghost onward = { λ d e f xs ys one two. gives-further d.book e.book f.book xs ys one two };
 }
 
-/// The verdict on what a machine keeps of any events has no fault, and what is owed by it is what the machine owes, so
-/// that neither the written table nor the axioms by places say more than the other.
+/// Whatever events a machine is given, the verdict on its history has no fault, and its debts are those of the machine. So
+/// the written table and the axioms on places agree.
 pub fn runs_are_faultless<A: Allocator>()
     ensures { (m : Parts A) → lowest_fault m ≡ None → (es : List (Event A)) → verdict m (run_state m es).kept ≡ record { faults = []; owed = debts_in (run_state m es) } }
 {}

@@ -1,4 +1,4 @@
-//! Desks: where a worker hands in its events. Those of many workers share a book and its ledger under a lock.
+//! Desks: where a worker submits its events. The desks of many workers share a book and its ledger under a lock.
 
 ghost use Rattle.std.specs.Prelude.{◌≡◌, ◌+◌, ◌<◌, ◌≤◌, ◌++◌, ◌∷◌, [], ℕ, List, Result, Err, length, IfOk, OnErr, OnOk};
 ghost use Rattle.acta_judge.specs.Verdicts.{verdict};
@@ -13,7 +13,7 @@ use std::marker::Brand;
 use std::sync::ledger::{self, Ledger, Share};
 use std::sync::{Mutex, Wait};
 
-/// Where a worker hands in its events, of the type E, and gets entries of the type X.
+/// Where a worker submits its events of type E and gets entries of type X.
 pub trait Desk<E, X> {
     ghost seat_of: { Self → ℕ };
 
@@ -22,17 +22,17 @@ pub trait Desk<E, X> {
 
     ghost event_in: { X → E };
 
-    // From the first state to the second the desk answered these entries, and no others.
+    // Between the two states, the desk answered exactly these entries.
     ghost answered: { Self → List X → Self → Type 0 };
 
-    // From the first state to the second the desk gave these answers, its errors among them, and no others.
+    // Between the two states, the desk gave exactly these answers, including errors.
     ghost gave: { Self → List (Result X Refusal) → Self → Type 0 };
 
     /// The desk's seat, which no call changes.
     fn seat(&self) -> u8
         ensures { result ≡ seat_of self.now };
 
-    /// Hands in one event, and answers its entry. `Err` where there is none: then the desk has answered nothing.
+    /// Submits one event, and returns its entry. On `Err` the desk has answered nothing.
     fn hand(&mut self, event: E) -> Result<X, TakeError>
         ensures same_seat { seat_of self.new ≡ seat_of self.old }
         ensures seat { IfOk result (λ entry. seat_in entry ≡ seat_of self.old) }
@@ -41,20 +41,20 @@ pub trait Desk<E, X> {
         ensures none { OnErr result (answered self.old [] self.new) }
         ensures gave { gave self.old (result ∷ []) self.new };
 
-    // A desk that stays as it is has answered nothing, and what it answered in two stretches it answered in both.
+    // An unchanged desk has answered nothing, and answers of consecutive stretches add up.
     ghost nothing: { (d : Self) → answered d [] d };
 
     ghost further: { (d e f : Self) (xs ys : List X) → answered d xs e → answered e ys f
         → answered d (xs ++ ys) f };
 
-    // The same of all its answers.
+    // The same for all its answers, including errors.
     ghost silent: { (d : Self) → gave d [] d };
 
     ghost onward: { (d e f : Self) (xs ys : List (Result X Refusal)) → gave d xs e → gave e ys f → gave d (xs ++ ys) f };
 }
 
-/// Which ledger counts the entries of a run, of which model the run is, which scripts its workers hand in, and at which
-/// gate; A is the model's allocator.
+/// The setting of a run: the ledger that counts its entries, its model, the scripts of its workers, and its gate. A is the
+/// model's allocator.
 pub trait Job<A>: Ledger {
     ghost use Rattle.std.specs.Prelude.{ℕ, List};
     ghost use Rattle.acta_table.specs.declared.event.Event.{Event};
@@ -65,7 +65,7 @@ pub trait Job<A>: Ledger {
 
     ghost scripts: { List (List (Event A)) };
 
-    // What is known of the gate: where it may stop, pass and go on.
+    // The contract of the gate: where it may stop, pass and go on.
     ghost may_stop: { ℕ → ℕ → Type 0 };
 
     ghost may_pass: { ℕ → ℕ → Type 0 };
@@ -87,7 +87,7 @@ impl<A> Job<A> for Brand {
     ghost may_go_on = { λ _ _ _. Unit {0} };
 }
 
-/// What lies under the lock: a book of the run's model, and a ledger, whose total is the number of its entries.
+/// The data under the lock: a book on the run's model, and a ledger whose total is the number of its entries.
 #[derive(Drop)]
 pub struct SharedLog<A: Handle, J: Job<A>> {
     book: Book<A>,
@@ -97,7 +97,7 @@ pub struct SharedLog<A: Handle, J: Job<A>> {
 }
 
 impl<A: Handle, J: Job<A>> SharedLog<A, J> {
-    /// A book with no entry, and a ledger that has counted none.
+    /// A book without entries, with a ledger that has counted none.
     pub fn new(book: Book<A>, calls: ledger::Book<J>) -> SharedLog<A, J>
         requires empty { book.entries ≡ [] }
         requires none { calls.total ≡ 0 }
@@ -108,7 +108,7 @@ impl<A: Handle, J: Job<A>> SharedLog<A, J> {
         SharedLog { book, calls }
     }
 
-    /// Takes one event as `Book::take` does; where it makes an entry, the share counts one more, and else it stays.
+    /// Takes one event as `Book::take` does. The share grows by one if an entry is added, and is unchanged otherwise.
     pub fn take(
         &mut self,
         seat: u8,
@@ -132,7 +132,7 @@ impl<A: Handle, J: Job<A>> SharedLog<A, J> {
         Ok(entry)
     }
 
-    /// A copy of the history that the machine keeps, on which a verdict has no fault.
+    /// A copy of the machine's history, in which a verdict finds no fault.
     pub fn history(&self, alloc: A) -> Result<Vec<Kept<A>, A>, AllocError>
         ensures all { IfOk result (λ copy. copy.items ≡ (state_of self.now.book).kept) }
         ensures few { IfOk result (λ copy. length copy.items ≤ MOST_EVENTS) }
@@ -141,7 +141,7 @@ impl<A: Handle, J: Job<A>> SharedLog<A, J> {
         self.book.history(alloc)
     }
 
-    /// The book, once all shares are back: it has as many entries as they counted.
+    /// The book, once all shares are returned: it has as many entries as they counted.
     pub fn close(self, all: &mut Share<J>) -> Book<A>
         requires { all.old.parts ≡ J.parts }
         ensures book { result ≡ self.book }
@@ -185,8 +185,8 @@ impl<'a, A: Handle, J: Job<A>, R: Wait> Desk<Event<A>, Entry<A>> for LockedDesk<
         self.seat
     }
 
-    /// Takes the lock, and the event as `SharedLog::take` does: the desk's share grows by one with one more entry in the
-    /// locked book, and stays where there is none.
+    /// Locks, and takes the event as `SharedLog::take` does: the desk's share grows by one if the book gets an entry, and is
+    /// unchanged otherwise.
     fn hand(&mut self, event: Event<A>) -> Result<Entry<A>, TakeError>
         ensures same_seat { self.new.seat ≡ self.old.seat }
         ensures seat { IfOk result (λ entry. entry.seat ≡ self.old.seat) }

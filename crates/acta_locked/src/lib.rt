@@ -1,5 +1,5 @@
-//! The book of many workers: each event is taken under one lock, and the book is a run of its entries' events.
-//! The workers hand their scripts in at desks, and a driven run gives each its part of the book.
+//! A book shared by many workers: each event is taken under one lock, and the book is a run of its entries' events. Workers
+//! submit their scripts at desks, and a driven run returns to each its part of the book.
 //!
 //! A call that allocates returns `Err` if memory runs out.
 #![tactic(auto)]

@@ -1,2 +1,2 @@
-/// How many workers a driven run has at most.
+/// The most workers of a driven run.
 pub const MOST_WORKERS: usize = 16;

@@ -1,4 +1,4 @@
-//! A driven run: what its threads share, and what it leaves: the book and the reports, or why there is no result.
+//! A driven run: what its threads share, and its result.
 
 ghost use Rattle.std.specs.Prelude.{◌≡◌, ◌+◌, ◌-◌, ◌<◌, ◌≤◌, ℕ, [], None, true, get_or, length, sum_by, vec_capacity, vec_len, Decides, IfErr, IfOk, IfSome, MatchResult};
 ghost use Rattle.std.specs.Result.{ForOk};
@@ -22,15 +22,15 @@ use std::sync::ledger::Share;
 use std::sync::{Mutex, Wait};
 use std::thread::{self, Promise, PromisedHandle, Scope, Threads};
 
-/// What a driven run leaves: the book, and the reports in order of seats.
+/// The result of a driven run: the book, and the reports in order of seats.
 #[derive(Drop)]
 pub struct Driven<A: Handle> {
     pub book: Book<A>,
     pub reports: Items<Report<A>, A>,
 }
 
-/// Why a driven run has no result. The first three come before any thread starts, the lowest first. Of the others
-/// `Memory` may stand in place of any.
+/// Why a driven run has no result. The first three are found before any thread starts, the lowest first. `Memory` may
+/// replace any of the others.
 #[derive(Clone, Copy, PartialEq, Eq, Debug)]
 pub enum DriveError {
     /// There is no script.
@@ -39,11 +39,11 @@ pub enum DriveError {
     TooManyWorkers,
     /// The scripts have more than 65,536 events together.
     TooManyEvents,
-    /// There is no memory.
+    /// Memory ran out.
     Memory,
     /// A thread could not be started.
     NoThread,
-    /// The gate said to give up at this seat.
+    /// The gate gave up at this seat.
     GaveUp(u8),
     /// A report is not its seat's part of the book, or does not answer its script.
     Unsettled,
@@ -102,7 +102,7 @@ pub(crate) fn fault_of<A: Allocator>(scripts: &[Script<A>]) -> Option<DriveError
     }
 }
 
-/// What a worker's thread hands back: its share, which has counted the entries of its report, and the report.
+/// What a worker's thread returns: the report, and the share that has counted its entries.
 #[derive(Drop)]
 pub struct Done<A: Allocator, J: Job<A>> {
     pub share: Share<J>,
@@ -111,7 +111,7 @@ pub struct Done<A: Allocator, J: Job<A>> {
     pub ghost counted: { ForOk outcome (λ report. length report.entries ≡ share.amount) },
 }
 
-/// All reports, in order of seats, and the ledger's share of all threads, which has counted their entries.
+/// All reports, in order of seats, and the combined share of all threads, which has counted their entries.
 #[derive(Drop)]
 pub struct Gathered<A: Allocator, J: Job<A>> {
     pub all: Share<J>,
@@ -119,7 +119,8 @@ pub struct Gathered<A: Allocator, J: Job<A>> {
     pub ghost counted: { all.amount ≡ sum_by (λ report. length report.entries) reports.items },
 }
 
-// A seat, whose thread promises an outcome of this seat; or the turns of a thread that judges, which promises as many fronts.
+// A seat, whose thread promises an outcome of this seat; or the number of turns of the judging thread, which promises as
+// many fronts.
 #[derive(Clone, Copy)]
 struct Task(u8);
 
@@ -131,7 +132,7 @@ impl<A: Allocator, J: Job<A>> Promise<Result<Watch<A, J>, DriveError>> for Task 
     ghost kept_by = { λ p r. MatchResult r (λ w. AreSeen J.model p.0 w.history.items w.fronts.items) (λ e. is_free e ≡ true) };
 }
 
-// Joins the threads, in order of seats, and puts together what they hand back: or why the lowest seat that failed has none.
+// Joins the threads, in order of seats, and combines their results, or returns why the lowest seat that failed has none.
 fn joined<A: Allocator, J: Job<A>, R: Threads>(
     rt: &R,
     running: Vec<PromisedHandle<Done<A, J>, Task>, A>,
@@ -164,7 +165,7 @@ fn joined<A: Allocator, J: Job<A>, R: Threads>(
     }
 }
 
-// What a run comes to, and what its threads hand back.
+// The result of a run or of its threads.
 type DriveResult<T> = Result<T, DriveError>;
 
 type Ended<A, J> = DriveResult<(Gathered<A, J>, Watch<A, J>)>;
@@ -209,7 +210,7 @@ impl<
         Done { share, outcome }
     }
 
-    // Starts a thread for each script, and joins each that was started, also where one could not be.
+    // Starts a thread for each script, and joins each that was started, even if one could not be.
     fn workers<E: 's>(&'s self, scope: &Scope<'s, E>, rest: Share<J>) -> DriveResult<Gathered<A, J>>
         requires fresh { (rest.parts ≡ length J.scripts + 1) × (rest.amount ≡ 0) }
         requires of_gate { IsOfGate (G.may_stop self.now.gate.now) (G.may_pass self.now.gate.now) (G.may_go_on self.now.gate.now) J.may_stop J.may_pass J.may_go_on }
@@ -237,7 +238,7 @@ impl<
         joined(self.rt, running, rest, reports)
     }
 
-    // In each turn copies the history, under the lock, judges the copy outside it, and shows the gate the front.
+    // In each turn copies the history under the lock, judges the copy outside it, and shows the front to the gate.
     fn judge(&self) -> Result<Watch<A, J>, DriveError>
         ensures { MatchResult result (λ w. AreSeen J.model self.now.turns w.history.items w.fronts.items) (λ e. is_free e ≡ true) }
     {
@@ -266,7 +267,7 @@ impl<
         })
     }
 
-    /// Runs each script, and the judging if there is a turn for it, in a thread of its own, and answers once all have ended.
+    /// Runs each script in its own thread, and the judging in one more if it has turns. Returns once all threads have ended.
     pub fn run(&'s self, rest: Share<J>) -> Ended<A, J>
         requires fresh { (rest.parts ≡ length J.scripts + 1) × (rest.amount ≡ 0) }
         requires of_gate { IsOfGate (G.may_stop self.now.gate.now) (G.may_pass self.now.gate.now) (G.may_go_on self.now.gate.now) J.may_stop J.may_pass J.may_go_on }
@@ -327,7 +328,7 @@ fn is_part<A: Allocator>(entries: &[Entry<A>], seat: u8, report: &[Entry<A>]) ->
     next == report.len()
 }
 
-// Whether the report is that seat's, its part of the book, and answers the script.
+// Whether the report is that of the seat, is its part of the book, and answers the script.
 fn is_settled<A: Handle>(book: &Book<A>, seat: u8, script: &Script<A>, report: &Report<A>) -> bool
     ensures { Decides result (IsPart book.now seat script.now report.now) }
 {
@@ -352,7 +353,7 @@ fn are_settled<A: Handle>(book: &Book<A>, scripts: &[Script<A>], reports: &[Repo
     true
 }
 
-/// The book and the reports, where these are its parts and answer the scripts, and else `Unsettled`.
+/// The book and the reports, if these are its parts and answer the scripts, otherwise `Unsettled`.
 pub(crate) fn settled<A: Handle, J: Job<A>>(
     shared_log: SharedLog<A, J>,
     gathered: Gathered<A, J>,

@@ -1,4 +1,4 @@
-//! Driven runs over one book, and, in a run with turns, a thread that judges the history while the workers make it.
+//! Driven runs over one book, optionally with a thread that judges the history while the workers make it.
 
 ghost use Rattle.std.specs.Prelude.{◌≡◌, ◌+◌, ◌≤◌, ◌++◌, true, drop, length, Err, Some, IfErr, IfOk, MatchResult};
 ghost use Rattle.acta_locked.specs.Books.{state_of};
@@ -22,14 +22,14 @@ use std::sync::ledger::Blank;
 use std::sync::{Mutex, Wait};
 use std::thread::Threads;
 
-/// The verdict on the first items of a history, and how many these are.
+/// The verdict on the first items of a history, and their number.
 #[derive(Drop)]
 pub struct Front<A: Allocator> {
     pub length: usize,
     pub verdict: Verdict<A>,
 }
 
-/// What a judging thread keeps: the last copy of the history, and a front for each copy.
+/// The state of a judging thread: the last copy of the history, and a front for each copy.
 #[derive(Drop)]
 pub struct Watch<A: Allocator, J: Job<A>> {
     pub history: Vec<Kept<A>, A>,
@@ -52,14 +52,14 @@ pub fn begins<A: Allocator>(first: &[Kept<A>], second: &[Kept<A>]) -> bool
     true
 }
 
-/// What a watched run leaves: what it leaves as a driven run, and a front for each turn of the judging thread.
+/// The result of a watched run: that of a driven run, and a front for each turn of the judging thread.
 #[derive(Drop)]
 pub struct Watched<A: Handle> {
     pub driven: Driven<A>,
     pub fronts: Items<Front<A>, A>,
 }
 
-// The watched run of scripts that nothing blocks, with a ledger of one part for each worker and one more.
+// The watched run of valid scripts, with a ledger of one part for each worker and one more.
 fn watch_run<
     A: Handle + Send + Sync,
     J: Job<A> + Send + Sync,
@@ -105,11 +105,11 @@ fn watch_run<
     Ok(Watched { driven, fronts })
 }
 
-/// As `drive`, and beside the workers a thread copies the kept history so many times, under the lock, judges each copy
-/// outside it, and shows each front to the gate. Without a turn there is no such thread. Where it answers `Ok`, each
-/// front is of the first items of the book's history, and their lengths never fall. A judging thread that could not be
-/// started is `NoThread`; where it finds no memory, the answer is `Memory`, behind the faults of the seats; and
-/// `Unsettled` where a copy is not how the history of the book begins. Not promised: when a copy is made.
+/// As `drive`, with one more thread that in each of `turns` turns copies the kept history under the lock, judges the copy
+/// outside it, and shows the front to the gate. With 0 turns there is no such thread. On `Ok` each front is of the first
+/// items of the book's history, and the lengths never fall. Returns `NoThread` if the judging thread could not be started.
+/// After the faults of the seats, returns `Memory` if the judging thread runs out of memory, and `Unsettled` if a copy is
+/// not a front of the book's history. Not promised: when a copy is made.
 pub fn drive_watched<A: Handle + Send + Sync, R: Threads + Wait + Sync, G: Gate<Entry<A>> + Sync>(
     rt: &R,
     alloc: A,
@@ -133,12 +133,12 @@ pub fn drive_watched<A: Handle + Send + Sync, R: Threads + Wait + Sync, G: Gate<
     watch_run::<A, Brand, R, G>(rt, alloc, blank, model, scripts, gate, turns)
 }
 
-/// Runs each script in a thread of its own, over one book of the model, with the gate round each call. Where it answers
-/// `Ok`, the book has as many entries as the workers made calls, and each seat's report is its part of the book, whose
-/// events are its script, in order. It answers `NoWorker`, `TooManyWorkers` and `TooManyEvents`, the lowest first,
-/// exactly where they hold, before any thread starts. Later all threads that were started have ended, and the answer is
-/// `NoThread` where one could not be started, else the fault of the lowest seat that failed (`GaveUp` or `Memory`),
-/// else `Unsettled`. Not promised: which order of the threads the book gets, fairness, and that it returns.
+/// Runs each script in its own thread, over one book of the model, with the gate called around each call. On `Ok` the book
+/// has as many entries as the workers made calls, and each seat's report is its part of the book, whose events are its
+/// script, in order. Returns `NoWorker`, `TooManyWorkers` and `TooManyEvents`, the lowest first, exactly if they apply,
+/// before any thread starts. Later errors come after all started threads have ended: `NoThread` if one could not be started,
+/// otherwise the fault of the lowest seat that failed (`GaveUp` or `Memory`), otherwise `Unsettled`. Not promised: the order
+/// in which the threads reach the book, fairness, and termination.
 pub fn drive<A: Handle + Send + Sync, R: Threads + Wait + Sync, G: Gate<Entry<A>> + Sync>(
     rt: &R,
     alloc: A,

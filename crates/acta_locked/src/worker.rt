@@ -1,4 +1,4 @@
-//! What a worker hands in, and what it gets.
+//! A worker's script, its gate and its report.
 
 ghost use Rattle.std.specs.Prelude.{◌≡◌, ◌≤◌, ℕ, List, Err, Ok, false, true, length, map, IfErr, IfOk, OnErr};
 ghost use Rattle.acta_locked.specs.declared.book.Entry.{Entry};
@@ -11,33 +11,33 @@ use crate::watch::Front;
 use acta_table::{Event, Items};
 use std::alloc::Allocator;
 
-/// What is called round each call of a worker, outside the lock, with the seat and which of the worker's calls it is,
-/// from 1; X is what the call is answered. It may wait; false gives up.
+/// Called around each call of a worker, outside the lock, with the seat and the number of the worker's call, from 1; X is
+/// the type of the answers. A function may wait; returning false gives up.
 pub trait Gate<X> {
-    // At which calls of which seats the gate may give up; at any, where it doesn't say.
+    // The calls of a seat at which the gate may give up; unless stated, any.
     ghost may_stop: { Self → ℕ → ℕ → Type 0 } = { λ _ _ _. Unit {0} };
 
-    // Before which calls of which seats the gate may be true, and gives up at others; before any, where it doesn't say.
+    // The calls of a seat before which the gate may return true; unless stated, any.
     ghost may_pass: { Self → ℕ → ℕ → Type 0 } = { λ _ _ _. Unit {0} };
 
-    // Behind which calls of which seats, answered what, it may be true; behind any, where it doesn't say.
+    // The calls of a seat, with their answers, after which the gate may return true; unless stated, any.
     ghost may_go_on: { Self → ℕ → ℕ → X → Type 0 } = { λ _ _ _ _. Unit {0} };
 
-    /// Called before the event is handed in.
+    /// Called before the event is submitted.
     fn before(&self, seat: u8, call: usize) -> bool
         ensures stops { result ≡ false → may_stop self.now seat call }
         ensures passes { result ≡ true → may_pass self.now seat call };
 
-    /// Called with the entry that was answered.
+    /// Called with the entry that the desk returned.
     fn after(&self, seat: u8, call: usize, entry: &X) -> bool
         ensures stops { result ≡ false → may_stop self.now seat call }
         ensures goes_on { result ≡ true → may_go_on self.now seat call entry.now };
 
-    /// Called by a judging thread after each front, outside the lock, with the number of its turn, from 1. It may wait.
+    /// Called by the judging thread after each front, outside the lock, with the number of its turn, from 1. It may wait.
     fn judged<A: Allocator>(&self, turn: u8, front: &Front<A>);
 }
 
-/// A gate that is always true, and never waits.
+/// A gate that always returns true, and never waits.
 #[derive(Clone, Copy)]
 pub struct OpenGate;
 
@@ -55,7 +55,7 @@ impl<X> Gate<X> for OpenGate {
     fn judged<A: Allocator>(&self, _turn: u8, _front: &Front<A>) {}
 }
 
-/// The events that one worker hands in, in order.
+/// The events that one worker submits, in order.
 #[derive(Drop)]
 pub struct Script<A: Allocator> {
     events: Vec<Event<A>, A>,
@@ -71,7 +71,7 @@ impl<A: Allocator> std::marker::Model for Script<A> {
 }
 
 impl<A: Allocator> Script<A> {
-    /// The script of these events. Takes no memory.
+    /// The script of these events. Does not allocate.
     pub fn of(events: Vec<Event<A>, A>) -> Script<A>
         ensures { result ≡ events.items }
     {
@@ -86,7 +86,7 @@ impl<A: Allocator> Script<A> {
     }
 }
 
-/// What a worker has at the end: its seat, and the entries that its calls made, in order.
+/// A worker's result: its seat, and the entries of its calls, in order.
 #[derive(Drop)]
 pub struct Report<A: Allocator> {
     pub seat: u8,
@@ -96,16 +96,16 @@ pub struct Report<A: Allocator> {
 /// Why a worker has no report.
 #[derive(Clone, Copy, PartialEq, Eq, Debug)]
 pub enum WorkError {
-    /// The gate said to give up at this seat.
+    /// The gate gave up at this seat.
     GaveUp(u8),
     /// The book had no room.
     BookFull,
-    /// There is no memory.
+    /// Memory ran out.
     Memory,
 }
 
-/// One worker: hands the script's events to the desk, in order, and reports the entries that it was answered. After an
-/// error the desk keeps the entries that it answered before, of the first events of the script.
+/// Runs one worker: submits the script's events at the desk, in order, and reports the entries returned. After an error the
+/// desk has entries of the first events of the script, those returned before.
 pub fn work<A: Allocator + Copy, D: Desk<Event<A>, Entry<A>>, G: Gate<Entry<A>>>(
     alloc: A,
     desk: &mut D,

@@ -1,4 +1,4 @@
--- What holds of an event that breaks no rule.
+-- Facts about an event that breaks no rule.
 use Rattle.std.proofs.Common.{◌≡◌, ◌<◌, ◌≤◌, ℕ, ◌==◌, Bool, true, false, ◌||◌, not, [], ◌∷◌, filter, Option, Some, None, refl, sym, ◌∙◌, arith, eq-eqb}
 use Rattle.std.specs.Prelude.{if◌then◌else◌, nat_lt}
 use Rattle.std.proofs.lemmas.Bool.{true≢false, lt-ltb}
@@ -15,7 +15,7 @@ use Rattle.acta_machine.specs.Summary.{Summary}
 use Rattle.acta_deps.specs.Statuses.{is_new, is_in_progress}
 use Rattle.acta_machine.specs.Rules.{fails}
 
--- where neither of two is broken
+-- if neither of two rules is broken, each is `None`
 pub or_none : {X : Type 0} (a b : Option X) → option_or a b ≡ None → (a ≡ None) × (b ≡ None)
 or_none None b e = (refl, e)
 or_none (Some x) b e = cc
@@ -53,7 +53,7 @@ is_fresh Committed e = cc
 is_fresh Aborted e = cc
 is_fresh Joined e = cc
 
--- the status that a rule asks for
+-- the status that a rule requires
 pub in_progress : (s : Summary) (rule : Rule) (t : ℕ) → broken_by rule (fails s is_in_progress t) ≡ None → s.status t ≡ InProgress
 in_progress s rule t e = is_begun (s.status t) (passes (is_in_progress (s.status t)) t (by_none rule (fails s is_in_progress t) e))
 
@@ -68,7 +68,7 @@ neither : (a b : Bool) → (a || b) ≡ false → (a ≡ false) × (b ≡ false)
 neither true b e = cc
 neither false b e = (refl, e)
 
--- a number that is not bad is from 1 to 16,383
+-- a valid transaction number is from 1 to 16,383
 pub good_number : (t : ℕ) → broken_by BadNumber (smallest (filter is_bad_number (t ∷ []))) ≡ None → (0 < t) × (t ≤ LAST_TXN)
 good_number t e =
     let parts = neither (t == 0) (nat_lt LAST_TXN t) (none_bad t (is_bad_number t) (by_none BadNumber _ e)) in

@@ -1,5 +1,5 @@
--- The edges of an operation by the table are those by places; they join its transaction to others in progress,
--- and their formulas hold.
+-- The edges of an operation by the table are those by places. They connect its transaction to others in progress, and
+-- their formulas are true.
 use Rattle.std.proofs.Common.{◌≡◌, ℕ, Bool, true, false, ◌&&◌, ◌||◌, not, ◌==◌, List, [], ◌∷◌, map, filter, Option, Some, None, is_some, refl, sym, ap, ◌∙◌}
 use Rattle.std.specs.Prelude.{option_and_then, if◌then◌else◌}
 use Rattle.std.specs.List.{list_any, list_all}
@@ -49,25 +49,25 @@ and_assoc : (a b c : Bool) → (a && b && c) ≡ (a && (b && c))
 and_assoc true b c = refl
 and_assoc false b c = refl
 
--- what stands against an operation by the table conflicts with it by places
+-- an operation conflicts by the table exactly if it conflicts by places
 pub against-places : {A : Type 0} (m : Parts A) (h : List (Kept A)) → ShowsPlaces m h (summary_of m h) → (t : ℕ) (ob : ObjId) (op : Op) (o : Operation) →
     stands_against m (summary_of m h) t ob op (held_op o (standing m h o)) ≡ (Rattle.acta_axioms.specs.Operations.is_of_others m h t o.object (standing m h o) && ((o.object == ob.0) && do_conflict m ob.0 o.op op))
 against-places m h shows t ob op o =
     (λ i. others-places m h shows t o i && (o.object == ob.0) && sym (do_conflict-on m ob.0 o.op op) i)
     ∙ and_assoc (Rattle.acta_axioms.specs.Operations.is_of_others m h t o.object (standing m h o)) (o.object == ob.0) (do_conflict m ob.0 o.op op)
 
--- those who hold it are the same
+-- the conflicting holders are the same
 pub conflicting_holders-places : {A : Type 0} (m : Parts A) (h : List (Kept A)) → ShowsPlaces m h (summary_of m h) → (t : ℕ) (ob : ObjId) (op : Op) → conflicting_holders m (summary_of m h) t ob op ≡ holders_against m h t ob.0 op
 conflicting_holders-places m h shows t ob op =
     ap (λ items. ascending (map (λ (i : HeldOp). i.holder.0) (filter (stands_against m (summary_of m h) t ob op) items))) shows.operations
     ∙ sym (ap ascending (holders-shown m h t ob.0 op (λ o. held_op o (standing m h o)) (stands_against m (summary_of m h) t ob op) (λ i. i.holder.0) (against-places m h shows t ob op) (λ o. refl)))
 
--- and so are the edges
+-- and so are the edges formed on them
 pub conflict_edges-places : {A : Type 0} (m : Parts A) (h : List (Kept A)) → ShowsPlaces m h (summary_of m h) → (t : TxnId) (ob : ObjId) (op : Op) → conflict_edges m (summary_of m h) t ob op ≡ formed_by m h (Operate t ob op)
 conflict_edges-places {A} m h shows t ob op =
     λ i. option_map_or (λ (k : Class A). edges_upon k.policy t (conflicting_holders-places m h shows t.0 ob op i)) (class_of-places m h (summary_of m h) shows t.0 i) []
 
--- each kind that a checked policy forms is one that it may
+-- a checked policy forms only kinds that it may
 any-kind : (test : Dep → Bool) (kind : Dep) → list_any test all_kinds ≡ false → test kind ≡ false
 any-kind test Cd none = any-at test all_kinds 0 none
 any-kind test Scd none = any-at test all_kinds 1 none
@@ -102,7 +102,7 @@ good-kind : (policy : Policy) → is_bad_policy policy ≡ false → (kind : Dep
 good-kind policy good kind formed =
     not_begin kind (allowed (forms policy kind) (is_policy_kind kind) (any-kind (forms_other policy) kind (last_false (not (refuses policy || list_any (forms policy) all_kinds)) _ good)) formed)
 
--- no class of a checked model has another policy
+-- no class of a checked model has a bad policy
 good-class : {A : Type 0} (m : Parts A) → lowest_fault m ≡ None → (class : ℕ) → option_map_or (λ k. is_bad_policy k.policy) (class_at m class) false ≡ false
 good-class m faultless class =
     any-at (λ k. is_bad_policy k.policy) m.classes class (no_fault (list_any (λ k. is_bad_policy k.policy) m.classes) BadPolicyKind (or_none _ (fault_if (list_any (λ k. is_bad_policy k.policy) m.classes) BadPolicyKind) faultless).1)
@@ -111,7 +111,7 @@ through-class : {X Y : Type 0} (test : Y → Bool) (f : X → Option Y) → ((x 
 through-class test f each None = refl
 through-class test f each (Some x) = each x
 
--- those who hold the operations that stand against another are in progress
+-- holders of conflicting operations are in progress
 all-conflicting_holders : (status : ℕ → Status) (test : HeldOp → Bool) → ((i : HeldOp) → test i ≡ true → is_open i.fate ≡ true) → (items : List HeldOp) → list_all (is_held_well status) items ≡ true → list_all (λ u. is_in_progress (status u)) (map (λ (i : HeldOp). i.holder.0) (filter test items)) ≡ true
 all-conflicting_holders status test opens [] all = refl
 all-conflicting_holders status test opens (i ∷ items) all =
@@ -140,7 +140,7 @@ conflicting_holders-on m s well t ob op =
     all-ascending (λ u. is_in_progress (s.status u)) (map (λ (i : HeldOp). i.holder.0) (filter (stands_against m s t ob op) s.operations))
     (all-conflicting_holders s.status (stands_against m s t ob op) (λ i against. first_true (is_open i.fate) _ (first_true (is_open i.fate && not (i.holder.0 == t)) _ (first_true (is_open i.fate && not (i.holder.0 == t) && not (is_among (exempt m s t) i.holder)) _ (first_true (is_of_others t (exempt m s t) s.permits i) _ (first_true (is_of_others t (exempt m s t) s.permits i && (i.ob.0 == ob.0)) _ against))))) s.operations well)
 
--- the formulas of the edges hold where their transactions have not ended
+-- the formulas of the edges are true while their transactions have not ended
 pub holding-conflicts : {A : Type 0} (m : Parts A) (s : Summary) (courses : ℕ → Course) → lowest_fault m ≡ None → AreHeldWell s → (t : TxnId) (ob : ObjId) (op : Op) → is_some (end (courses t.0)) ≡ false
     → ((u : ℕ) → is_in_progress (s.status u) ≡ true → is_some (end (courses u)) ≡ false) → list_all (holds_in courses) (conflict_edges m s t ob op) ≡ true
 holding-conflicts {A} m s courses faultless well t ob op t_open opens =

@@ -1,4 +1,4 @@
--- What stands against an operation by the table is what does by the rules.
+-- The search for conflicting operations agrees with the rules.
 use Rattle.std.proofs.Common.{if◌then◌else◌, ◌≡◌, ℕ, ◌+◌, Bool, true, false, not, ◌&&◌, ◌||◌, ◌==◌, cond, List, [], ◌∷◌, map, filter, Some, None, refl, sym, ap, ◌∙◌}
 use Rattle.std.specs.List.{list_any, position_from}
 use Rattle.std.proofs.lemmas.Bool.{eqb-true}
@@ -26,11 +26,11 @@ by-number : (ts : List TxnId) (u : TxnId) → list_any (λ n. n == u.0) (map (λ
 by-number [] u = refl
 by-number (t ∷ ts) u = ap (λ b. (t.0 == u.0) || b) (by-number ts u)
 
--- one is in the set where it is exempt
+-- a transaction is in the set of exempt ones exactly if it is exempt
 pub in-exempt : {A : Type 0} (m : Parts A) (s : Summary) (t u : ℕ) → list_any (λ k. k == u) (exempt_numbers m s t) ≡ list_any (λ a. a.0 == u) (exempt m s t)
 in-exempt m s t u = sym (any-number u (exempt_numbers m s t)) ∙ in-ascending u (map (λ x. x.0) (exempt m s t)) ∙ by-number (exempt m s t) (record { 0 = u })
 
--- in the words of the table, where the operation is well formed: by whether it is on the object
+-- the conflict test in the table's terms, for a well-formed operation
 on_object : (x a p q c b : Bool) → (b ≡ true → p ≡ q) → (x && not (a || p) && b && c) ≡ ((x && not a && not q) && b && c)
 on_object true true p q c b same = refl
 on_object true false p q c true same = ap (λ d. not d && true && c) (same refl)
@@ -54,11 +54,11 @@ ill_stands : {A : Type 0} (m : Parts A) (s : Summary) (t : ℕ) (ob : ObjId) (op
 ill_stands m s t ob op i is =
     ap (λ b. is_of_others t (exempt m s t) s.permits i && (i.ob.0 == ob.0) && b) (ill-conflicts m ob.0 i.op op is) ∙ none_and (is_of_others t (exempt m s t) s.permits i && (i.ob.0 == ob.0))
 
--- what is against it by the set of those that are exempt
+-- the conflict test by the set of exempt transactions
 against_same : {A : Type 0} (m : Parts A) (s : Summary) (t : ℕ) (ob : ObjId) (op : Op) (keys : List ℕ) → AreExempt m s t ob.0 keys → is_against t keys ob.0 op ≡ is_against_but t (is_exempt m s t ob.0) ob.0 op
 against_same m s t ob op keys same = λ n i. is_open i.fate && not (i.holder.0 == t) && not (same i.holder.0 n) && (i.ob.0 == ob.0) && ops_conflict i.op op
 
--- the first that stands against it
+-- the first conflicting operation
 first-is : {A : Type 0} (m : Parts A) (s : Summary) (t : ℕ) (ob : ObjId) (op : Op) → is_well_formed m ob.0 op ≡ true →
     first_number (is_against_but t (is_exempt m s t ob.0) ob.0 op) s.operations ≡ first_number (stands_against m s t ob op) s.operations
 first-is m s t ob op is = ap (λ (test : HeldOp → Bool). first_number test s.operations) (λ x i. stands-but m s t ob op i is x)
@@ -85,7 +85,7 @@ pub first-tells : {A : Type 0} (m : Parts A) (s : Summary) (t : ℕ) (ob : ObjId
 first-tells m s t ob op keys same =
     ap (λ (test : HeldOp → Bool). if is_well_formed m ob.0 op then first_number test s.operations else None) (against_same m s t ob op keys same) ∙ first-but m s t ob op
 
--- who holds those that do
+-- the conflicting holders
 conflicting_holders-are : {A : Type 0} (m : Parts A) (s : Summary) (t : ℕ) (ob : ObjId) (op : Op) → is_well_formed m ob.0 op ≡ true →
     ascending (map (λ (i : HeldOp). i.holder.0) (filter (is_against_but t (is_exempt m s t ob.0) ob.0 op) s.operations)) ≡ conflicting_holders m s t ob op
 conflicting_holders-are m s t ob op is =
@@ -112,7 +112,7 @@ pub conflicting_holders-tell : {A : Type 0} (m : Parts A) (s : Summary) (t : ℕ
 conflicting_holders-tell m s t ob op keys same =
     ap (λ (test : HeldOp → Bool). if is_well_formed m ob.0 op then ascending (map (λ (i : HeldOp). i.holder.0) (filter test s.operations)) else []) (against_same m s t ob op keys same) ∙ conflicting_holders-but m s t ob op
 
--- what an event forms that is no operation
+-- the edges of an event that is no operation
 pub wanted-due : {A : Type 0} (m : Parts A) (s : Summary) (e : Event A) → ((t : TxnId) (ob : ObjId) (op : Op) → e ≡ Operate t ob op → ⊥) → edges_wanted m.classes e ≡ edges_due m s e
 wanted-due m s (Begin t class) other = refl
 wanted-due m s (Spawn t c class) other = refl

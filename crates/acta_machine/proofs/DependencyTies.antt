@@ -1,4 +1,4 @@
--- The rules on dependencies, read from the statuses, against the formulas of the edges, read from the courses.
+-- The rules on dependencies, by statuses, agree with the formulas of the edges, by courses.
 use Rattle.std.proofs.Common.{◌≡◌, ℕ, ◌+◌, Bool, true, false, ◌&&◌, ◌||◌, not, ◌==◌, if◌then◌else◌, List, [], ◌∷◌, ◌++◌, map, filter, Option, Some, None, is_some, is_none, option_map, refl, sym, ap, ◌∙◌, inl, inr, eq-eqb, arith}
 use Rattle.std.specs.List.{list_any, list_all, filter_map, cons_option, position_from, enumerate_from}
 use Rattle.std.specs.Option.{option_or}
@@ -32,7 +32,7 @@ use Rattle.acta_machine.specs.Exactness.{is_dependency_rule, refuses_start, refu
 use Rattle.acta_machine.proofs.Courses.{debt_by, is_broken_by, owes_abort_by, clashes_by, is_legal_by}
 use Rattle.acta_machine.proofs.EdgeSteps.{begun, committed, aborted, joined, begin-j, begin-i, commit-j, commit-i, abort-j, abort-i, join-j, join-i, debts-tie}
 
--- a rule on edges is broken where some edge passes its test
+-- a rule on edges is broken if some edge passes its test
 some_first : (rule : Rule) (test : Edge → Bool) (n : ℕ) (es : List Edge) → is_some (broken_by rule (position_from test n es)) ≡ list_any test es
 some_first rule test n [] = refl
 some_first rule test n (e ∷ es) = by (test e) (some_first rule test (n + 1) es)
@@ -45,7 +45,7 @@ some_first rule test n (e ∷ es) = by (test e) (some_first rule test (n + 1) es
 some_rule : (rule : Rule) (test : Edge → Bool) (es : List Edge) → is_some (broken_by rule (first_number test es)) ≡ list_any test es
 some_rule rule test es = some_first rule test 1 es
 
--- some number is the smallest where there is one
+-- there is a smallest number exactly if there is a number
 some_smallest : (rule : Rule) (test : Edge → Bool) (es : List Edge) → is_some (broken_by rule (smallest (map (λ e. e.j.0) (filter test es)))) ≡ list_any test es
 some_smallest rule test [] = refl
 some_smallest rule test (e ∷ es) = by (test e) (some_smallest rule test es)
@@ -78,7 +78,7 @@ some_clash : (status : ℕ → Status) (es : List Edge) (t : ℕ) (s : Status) �
 unfolding clash
 some_clash status es t s = some_smallest Clash (clashes_in (with_status status t s) es) es
 
--- an event is refused where an edge blocks it or debts would clash
+-- an event is refused if an edge blocks it or debts would clash
 start_tests : (status : ℕ → Status) (es : List Edge) (t : ℕ) → is_some (start_refusal status es t) ≡ (list_any (refuses_start status t) es || meet_then status es t InProgress)
 unfolding start_refusal begin_dep serial_dep begin_on_commit begin_on_abort
 start_tests status es t =
@@ -116,7 +116,7 @@ join_tests : (status : ℕ → Status) (es : List Edge) (t : ℕ) → is_some (j
 unfolding join_refusal owing_abort owing_commit
 join_tests status es t = or_tests _ _ _ _ es (some_rule _ _ es) (some_rule _ _ es)
 
--- two tests that agree at each edge that is apart and unbroken agree on a list of such edges
+-- tests that agree on each edge between two transactions that is not broken agree on a list of such edges
 equivalent : (f g broken : Edge → Bool) → ((e : Edge) → is_apart e ≡ true → broken e ≡ false → f e ≡ g e) → (es : List Edge) → list_all is_apart es ≡ true → list_any broken es ≡ false → map f es ≡ map g es
 equivalent f g broken same [] apart whole = refl
 equivalent f g broken same (e ∷ es) apart whole =
@@ -124,7 +124,7 @@ equivalent f g broken same (e ∷ es) apart whole =
     let w = or_parts (broken e) (list_any broken es) whole in
     λ i. same e a.0 w.0 i ∷ equivalent f g broken same es a.1 w.1 i
 
--- and so pass some edge equivalent
+-- whether some edge passes a test, computed from the results
 any-map : (f : Edge → Bool) (es : List Edge) → list_any f es ≡ list_any (λ b. b) (map f es)
 any-map f [] = refl
 any-map f (e ∷ es) = ap (λ b. f e || b) (any-map f es)
@@ -132,7 +132,7 @@ any-map f (e ∷ es) = ap (λ b. f e || b) (any-map f es)
 any_equivalent : (f g : Edge → Bool) (es : List Edge) → map f es ≡ map g es → list_any f es ≡ list_any g es
 any_equivalent f g es same = any-map f es ∙ ap (list_any (λ b. b)) same ∙ sym (any-map g es)
 
--- what is owed by an edge is the same by the statuses and by the courses
+-- the debt of an edge is the same by statuses and by courses
 owes_equivalent : (status : ℕ → Status) (courses : ℕ → Course) → ((u : ℕ) → status u ≡ course_status (courses u)) → ((u : ℕ) → is_orderly (courses u) ≡ true) → (e : Edge) → debt_of status e ≡ debt_by courses e
 owes_equivalent status courses shows orderly e =
     (λ x. debt_in e.kind (shows e.i.0 x) (shows e.j.0 x))
@@ -144,7 +144,7 @@ clashes_equivalent status courses shows orderly es =
     let same = owes_equivalent status courses shows orderly in
     λ x. list_any (λ e. is_commit (same e x) && list_any (λ f. (f.j.0 == e.j.0) && is_abort (same f x)) es) es
 
--- the edge joins two, so that only one of them is t
+-- an edge is between two transactions, so only one of them is t
 not_both : (j i t : ℕ) → not (j == i) ≡ true → ((j == t) && (i == t)) ≡ false
 not_both j i t apart = grind (arith, nat_tests)
 
@@ -152,7 +152,7 @@ or-false : (b : Bool) → (b || false) ≡ b
 or-false true = refl
 or-false false = refl
 
--- one edge that is unbroken: it is blocked exactly where the event, of its j or its i or of neither, breaks its formula
+-- an unbroken edge blocks the event exactly if the event of its j or i, or of neither, breaks its formula
 module _ (kind : Dep) (n : ℕ) (cj ci : Course) (orderly_j : is_orderly cj ≡ true) (orderly_i : is_orderly ci ≡ true) (within_j : IsWithin n cj) (within_i : IsWithin n ci) (whole : is_broken kind cj ci ≡ false) where
   start_edge : (of_j of_i : Bool) → (of_j && of_i) ≡ false → (of_j ≡ true → course_status cj ≡ NotBegun) → (of_i ≡ true → course_status ci ≡ NotBegun)
       → ((of_j && awaits_begin kind (course_status ci)) || (of_j && awaits_end kind (course_status ci)) || (of_j && awaits_commit kind (course_status ci)) || (of_j && awaits_abort kind (course_status ci)))
@@ -198,7 +198,7 @@ and-false : (b : Bool) → (b && false) ≡ false
 and-false true = refl
 and-false false = refl
 
--- a debt that is there after t has joined another was there before
+-- a debt that exists after t has joined another existed before
 still_owed : (kind : Dep) (i j : Status) (of_i of_j : Bool) → (of_i ≡ true → i ≡ InProgress) → (test : Option Missing → Bool) → test None ≡ false
     → test (debt_in kind (if of_i then Joined else i) (if of_j then Joined else j)) ≡ true → test (debt_in kind i j) ≡ true
 still_owed kind i j false false on test none e = e
@@ -217,7 +217,7 @@ still_owed kind i j false true on test none e = absurd (true≢false (sym e ∙ 
     of_joined Cmd i = ap (λ b. missing_if b Commit) (and-false (has_aborted i))
     of_joined kind i = refl
 
--- where a test passes no edge, a test that passes fewer does not either
+-- if no edge passes a test, none passes a stronger one
 any-fewer : (f g : Edge → Bool) → ((e : Edge) → f e ≡ true → g e ≡ true) → (es : List Edge) → list_any g es ≡ false → list_any f es ≡ false
 any-fewer f g fewer [] none = refl
 any-fewer f g fewer (e ∷ es) none =
@@ -228,7 +228,7 @@ any-fewer f g fewer (e ∷ es) none =
     fewer_here true is = absurd (true≢false (sym (fewer e is) ∙ (or_parts (g e) (list_any g es) none).0))
     fewer_here false is = is
 
--- where some edge passes a test, some edge passes one that passes more
+-- if some edge passes a test, some edge passes a weaker one
 any-more : (f g : Edge → Bool) → ((e : Edge) → f e ≡ true → g e ≡ true) → (es : List Edge) → list_any f es ≡ true → list_any g es ≡ true
 any-more f g more es some = of (list_any g es) refl
   where
@@ -236,7 +236,7 @@ any-more f g more es some = of (list_any g es) refl
     of true is = is
     of false is = absurd (true≢false (sym some ∙ any-fewer f g more es is))
 
--- so where nobody owes both, nobody does after a join
+-- so if no transaction owes both, none does after a join
 calm_joined : (status : ℕ → Status) (es : List Edge) (t : ℕ) → status t ≡ InProgress → list_any (clashes_in status es) es ≡ false → meet_then status es t Joined ≡ false
 calm_joined status es t at = any-fewer (clashes_in (with_status status t Joined) es) (clashes_in status es) fewer es
   where
@@ -255,24 +255,24 @@ calm_joined status es t at = any-fewer (clashes_in (with_status status t Joined)
             let parts = and_parts (f.j.0 == e.j.0) (is_abort (debt_of (with_status status t Joined) f)) is in
             λ x. parts.0 x && owed_before f is_abort refl parts.1 x
 
--- not neither of two
+-- a disjunction is the negation of neither
 neither : (a b : Bool) → (a || b) ≡ not (not a && not b)
 neither true b = refl
 neither false true = refl
 neither false false = refl
 
--- an event is refused exactly where it is not legal, by each edge that it breaks, and by debts that meet
+-- an event is refused exactly if the result is not legal, edge by edge and for clashing debts
 pub record IsExactBy (later : ℕ → Course) (es : List Edge) (refused clash : Bool) (test : Edge → Bool) : Type 0 where
   pub refuses : refused ≡ not (is_legal_by later es)
   pub equivalent : map test es ≡ map (is_broken_by later) es
   pub clashes : clash ≡ list_any (clashes_by later es) es
 
--- an event of t, which lengthens t's course alone, is refused exactly where it would leave a formula broken or debts that clash
+-- an event of t, which only extends t's course, is refused exactly if it would break a formula or make debts clash
 module _ (status : ℕ → Status) (courses later : ℕ → Course) (es : List Edge) (n t : ℕ)
     (shows : (u : ℕ) → status u ≡ course_status (courses u)) (orderly : (u : ℕ) → is_orderly (courses u) ≡ true) (within : (u : ℕ) → IsWithin n (courses u))
     (apart : list_all is_apart es ≡ true) (unbroken : list_any (is_broken_by courses) es ≡ false)
     (others : (u : ℕ) → (u ≡ t → ⊥) → later u ≡ courses u) (orderly_later : (u : ℕ) → is_orderly (later u) ≡ true) where
-  -- each course after the event
+  -- the courses after the event
   moved : (g : Course → Course) → later t ≡ g (courses t) → (u : ℕ) → (if u == t then g (courses u) else courses u) ≡ later u
   moved g here u =
       elim (cases_eq u t) [
@@ -280,7 +280,7 @@ module _ (status : ℕ → Status) (courses later : ℕ → Course) (es : List E
         | inr ne ↦ ap (λ b. if b then g (courses u) else courses u) (ne_eqb u t ne) ∙ sym (others u ne)
       ]
 
-  -- how t stood before
+  -- the status of t before the event
   stands : (s : Status) → status t ≡ s → (u : ℕ) → (u == t) ≡ true → course_status (courses u) ≡ s
   stands s at u same = sym (shows u) ∙ ap status (eqb-true u t same) ∙ at
 
@@ -339,7 +339,7 @@ module _ (status : ℕ → Status) (courses later : ℕ → Course) (es : List E
           ∙ abort_edge e.kind n (courses e.j.0) (courses e.i.0) (orderly e.j.0) (orderly e.i.0) (within e.j.0) (within e.i.0) whole (e.j.0 == t) (e.i.0 == t) (not_both e.j.0 e.i.0 t two) (stands InProgress at e.j.0) (stands InProgress at e.i.0)
           ∙ (λ x. is_broken e.kind (new e.j.0 x) (new e.i.0 x))
 
-  -- a join leaves nobody who owes both, where nobody did
+  -- if no transaction owed both, none does after a join
   pub joins-exact : status t ≡ InProgress → later t ≡ joined (n + 1) (courses t) → ((u : ℕ) → with_status status t Joined u ≡ course_status (later u)) → list_any (clashes_by courses es) es ≡ false
       → IsExactBy later es (is_some (join_refusal status es t)) false (refuses_join status t)
   joins-exact at here shows_later calm = exact (refuses_join status) Joined (is_some (join_refusal status es t)) false tests (sym calm_then) each shows_later
@@ -369,16 +369,16 @@ owed_from-tie status courses shows orderly n (e ∷ es) =
     mapped None = refl
     mapped (Some missing) = refl
 
--- the debts by the statuses are those by the courses
+-- the debts by statuses are those by courses
 pub owed-tie : (status : ℕ → Status) (courses : ℕ → Course) (es : List Edge) → ((u : ℕ) → status u ≡ course_status (courses u)) → ((u : ℕ) → is_orderly (courses u) ≡ true)
     → owed_in status es ≡ filter_map (λ e. option_map (owed_on e) (debt_by courses e.1)) (enumerate_from 1 es)
 owed-tie status courses es shows orderly = owed_from-tie status courses shows orderly 1 es
 
--- an edge at the end that does not pass makes no difference
+-- an edge at the end that fails the test makes no difference
 any-push : (test : Edge → Bool) (es : List Edge) (f : Edge) → test f ≡ false → list_any test (es ++ f ∷ []) ≡ list_any test es
 any-push test es f e = list_any-append test es (f ∷ []) ∙ (λ x. list_any test es || (e x || false)) ∙ or-false (list_any test es)
 
--- by a new edge whose formula holds nothing is owed, and the edges are legal as before
+-- a new edge whose formula is true has no debt, and leaves the edges legal
 pub forms-legal : (courses : ℕ → Course) (es : List Edge) (f : Edge) → is_legal_by courses es ≡ true → is_false f.kind (courses f.j.0) (courses f.i.0) ≡ false → is_legal_by courses (es ++ f ∷ []) ≡ true
 forms-legal courses es f legal holds =
     let whole : is_broken_by courses f ≡ false = ap (λ b. b && is_none (if b && is_none (end (courses f.j.0)) then payment f.kind else None)) holds in
@@ -389,7 +389,7 @@ forms-legal courses es f legal holds =
     ∙ (λ x. not (list_any (is_broken_by courses) es) && not (any-push (clashes_by courses es) es f unclashed x))
     ∙ legal
 
--- the same of several new edges
+-- the same for several new edges
 pub all-legal : (courses : ℕ → Course) (es more : List Edge) → is_legal_by courses es ≡ true → list_all (λ f. not (is_false f.kind (courses f.j.0) (courses f.i.0))) more ≡ true → is_legal_by courses (formed es more) ≡ true
 all-legal courses es [] legal hold = legal
 all-legal courses es (f ∷ more) legal hold =
@@ -404,9 +404,9 @@ all-legal courses es (f ∷ more) legal hold =
     of_known true held = legal
     of_known false held = forms-legal courses es f legal held
 
--- edges that are formed and pass no test, and by which nothing is owed, make no difference to a start
+-- new edges that fail the tests and have no debt make no difference to a start
 
--- where the new edges do not pass, the test passes as before
+-- if the new edges fail the test, the result is as before
 any-formed : (test : Edge → Bool) (es more : List Edge) → list_all (λ f. not (test f)) more ≡ true → list_any test (formed es more) ≡ list_any test es
 any-formed test es [] none = refl
 any-formed test es (f ∷ more) none =
@@ -421,14 +421,14 @@ any-formed test es (f ∷ more) none =
     of_known true none = refl
     of_known false none = any-push test es f none
 
--- what passes one test passes a weaker one
+-- whatever passes one test passes a weaker one
 all-weaker : (p q : Edge → Bool) → ((f : Edge) → p f ≡ true → q f ≡ true) → (more : List Edge) → list_all p more ≡ true → list_all q more ≡ true
 all-weaker p q weaker [] all = refl
 all-weaker p q weaker (f ∷ more) all =
     let parts = and_parts (p f) (list_all p more) all in
     λ x. weaker f parts.0 x && all-weaker p q weaker more parts.1 x
 
--- by edges on which nothing is owed no debts clash
+-- edges without debts cause no clash
 clash-formed : (status : ℕ → Status) (es more : List Edge) → list_all (λ f. not (is_commit (debt_of status f)) && not (is_abort (debt_of status f))) more ≡ true
     → list_any (clashes_in status (formed es more)) (formed es more) ≡ list_any (clashes_in status es) es
 clash-formed status es more calm =
@@ -467,7 +467,7 @@ pub meet-formed : (status : ℕ → Status) (es more : List Edge) (t : ℕ) → 
 meet-formed status es more t neutral =
     clash-formed (with_status status t InProgress) es more (all-weaker _ _ (λ f e. (and_parts (not (refuses_start status t f)) _ e).1) more neutral)
 
--- an edge of no begin kind between two in progress is such an edge
+-- an edge of no begin kind between two transactions in progress is neutral
 pub neutral-edge : (status : ℕ → Status) (t : ℕ) (f : Edge) → is_begin_kind f.kind ≡ false → with_status status t InProgress f.i.0 ≡ InProgress → with_status status t InProgress f.j.0 ≡ InProgress → is_neutral status t f ≡ true
 neutral-edge status t f other at_i at_j =
     let nothing : debt_of (with_status status t InProgress) f ≡ None = (λ x. debt_in f.kind (at_i x) (at_j x)) ∙ none_running f.kind in
@@ -486,7 +486,7 @@ neutral-edge status t f other at_i at_j =
     bars_none kind true i e = refl
     bars_none kind false i e = refl
 
--- whether what is broken, if anything is, is such a rule
+-- whether the broken rule, if any, is on dependencies
 is_on_dependencies : Option Refusal → Bool
 is_on_dependencies None = true
 is_on_dependencies (Some r) = is_dependency_rule r.rule
@@ -505,7 +505,7 @@ rule_in : (o : Option Refusal) (r : Refusal) → is_on_dependencies o ≡ true �
 unfolding is_on_dependencies
 rule_in o r on is = sym (ap is_on_dependencies is) ∙ on
 
--- a start, a commit, an abort or a join is refused by a rule on dependencies
+-- the rule that refuses a start, a commit, an abort or a join is on dependencies
 pub start-rule : (status : ℕ → Status) (es : List Edge) (t : ℕ) (r : Refusal) → start_refusal status es t ≡ Some r → is_dependency_rule r.rule ≡ true
 unfolding start_refusal begin_dep serial_dep begin_on_commit begin_on_abort clash
 start-rule status es t r is =

@@ -1,4 +1,4 @@
--- What a start, a commit, an abort or a join does to the formula of one edge.
+-- The effect of a start, a commit, an abort or a join on the formula of one edge.
 use Rattle.std.proofs.Common.{◌≡◌, ℕ, ◌+◌, Bool, true, false, ◌&&◌, ◌||◌, not, Option, Some, None, is_some, is_none, refl, sym, ap, subst, ◌∙◌, arith, if◌then◌else◌}
 use Rattle.std.proofs.lemmas.Bool.{lt-ltb, le-ltb}
 use Rattle.acta_table.specs.declared.answer.Status.{Status}
@@ -16,7 +16,7 @@ use Rattle.acta_axioms.specs.Formulas.{is_before, is_false, is_broken, debt}
 use Rattle.acta_axioms.specs.Claims.{course_status, is_orderly}
 use Rattle.acta_axioms.specs.inside.Within.{IsWithin}
 
--- a course with one event more, at this place
+-- a course with one more event, at this place
 abbrev pub begun : ℕ → Course → Course
 begun p c = record c { start = Some p }
 
@@ -60,7 +60,7 @@ shape c = of c.start c.commit c.abort c.join
     of (Some a) (Some b) None (Some d) e = cc
     of (Some a) None (Some b) (Some d) e = cc
 
--- what holds of two shapes holds of courses of these shapes
+-- a property of two shapes is a property of courses with these shapes
 of_shapes : (P : Course → Course → Type 0) {cj ci : Course} (j i : Shape) → course_of j ≡ cj → course_of i ≡ ci → P (course_of j) (course_of i) → P cj ci
 of_shapes P {cj} j i is_j is_i h = subst (P cj) is_i (subst (λ c. P c (course_of i)) is_j h)
 
@@ -89,7 +89,7 @@ begun_course c orderly on =
     let b = begun_shape s.0 (ap course_status s.1 ∙ on) in
     (b.0, sym (ap course_of b.1) ∙ s.1)
 
--- whether the formula of an edge is broken by a start, a commit or an abort of j, where i stands so
+-- whether a start, a commit or an abort of j breaks the formula of an edge, given the status of i
 abbrev bars_begin : Dep → Status → Bool
 bars_begin kind i = awaits_begin kind i || awaits_end kind i || awaits_commit kind i || awaits_abort kind i
 
@@ -99,11 +99,11 @@ bars_commit kind i = ends_after kind i || is_abort (debt_by kind i InProgress)
 abbrev bars_abort : Dep → Status → Bool
 bars_abort kind i = ends_after kind i || is_commit (debt_by kind i InProgress)
 
--- whether j owes something, where i stands so: by a join it could not pay
+-- whether j has a debt, given the status of i: after a join it could not be settled
 abbrev bars_join : Dep → Status → Bool
 bars_join kind i = is_abort (debt_by kind i InProgress) || is_commit (debt_by kind i InProgress)
 
--- whether it is broken by a commit of i, where j stands so
+-- whether a commit of i breaks the formula, given the status of j
 abbrev is_late_commit : Dep → Status → Bool
 is_late_commit kind j = committed_first kind j || began_first kind j || cannot_pay_commit kind j
 
@@ -143,7 +143,7 @@ begin-i kind n cj ci orderly_j orderly_i fresh =
     of_shapes (λ j i. is_broken kind j i ≡ false → is_broken kind j (begun (n + 1) i) ≡ false)
     j.0 Fresh j.1 (fresh_course ci orderly_i fresh) (begin_i-at kind n j.0)
 
--- where nothing can be owed, it makes no difference whether j has ended
+-- for a kind without debts it makes no difference whether j has ended
 whether_ended : (b c d : Bool) → (b && is_none {T = Missing} (if b && c then None else None)) ≡ false → (b && is_none {T = Missing} (if b && d then None else None)) ≡ false
 whether_ended true true d e = cc
 whether_ended true false d e = cc
@@ -267,18 +267,18 @@ join-j kind n cj ci orderly_j orderly_i on =
     of_shapes (λ j i. is_broken kind j i ≡ false → is_broken kind (joined (n + 1) j) i ≡ bars_join kind (course_status i))
     (Begun j.0) i.0 j.1 i.1 (join_j-at kind n j.0 i.0)
 
--- i joins another: no formula speaks of it
+-- i joins another: no formula depends on it
 pub join-i : (kind : Dep) (n : ℕ) (cj ci : Course) → is_broken kind cj (joined (n + 1) ci) ≡ is_broken kind cj ci
 unfolding is_false
 join-i Cd n cj ci = refl
 join-i kind n cj ci = refl
 
--- where nothing can be owed, nothing is
+-- a kind without debts has no debt
 nothing : (b : Bool) → ◌≡◌ {A = Option Missing} None (if b then None else None)
 nothing true = refl
 nothing false = refl
 
--- where j has ended, nothing is owed
+-- if j has ended, it owes nothing
 ended_owes : (b : Bool) (missing : Option Missing) → None ≡ (if b && false then missing else None)
 ended_owes true missing = refl
 ended_owes false missing = refl
@@ -297,14 +297,14 @@ debts-at kind Fresh Fresh = refl
 debts-at kind j Fresh = refl
 debts-at kind j i = refl
 
--- the debt by the statuses is the debt by the courses
+-- the debt by statuses is the debt by courses
 pub debts-tie : (kind : Dep) (cj ci : Course) → is_orderly cj ≡ true → is_orderly ci ≡ true → debt_by kind (course_status ci) (course_status cj) ≡ debt kind cj ci
 debts-tie kind cj ci orderly_j orderly_i =
     let j = shape cj orderly_j in
     let i = shape ci orderly_i in
     of_shapes (λ j i. debt_by kind (course_status i) (course_status j) ≡ debt kind j i) j.0 i.0 j.1 i.1 (debts-at kind j.0 i.0)
 
--- an edge that is formed while j has not begun, or while neither has ended, has a formula that holds
+-- the formula of an edge is true if j has not begun, or if neither transaction has ended, when it is formed
 pub formed-begin : (kind : Dep) (cj ci : Course) → is_begin_kind kind ≡ true → is_some cj.start ≡ false → is_false kind cj ci ≡ false
 unfolding is_false
 formed-begin Bd cj ci e fresh = rw fresh refl
@@ -318,7 +318,7 @@ formed-begin Wcd cj ci e fresh = rw fresh (nor_either (is_some ci.commit) (not (
     nor_either false c = refl
 formed-begin kind cj ci e fresh = cc
 
--- where neither has ended, the course has no commit, no abort and no join
+-- the course of a transaction that has not ended has no commit, no abort and no join
 endless : (c : Course) → is_some (end c) ≡ false → ◌≡◌ {A = Course} c (record { start = c.start; commit = None; abort = None; join = None })
 endless c = of c.commit c.abort c.join
   where

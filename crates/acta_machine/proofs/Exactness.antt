@@ -1,5 +1,5 @@
--- The rules on dependencies refuse an event exactly where the history with it would not be legal, and the
--- debts of the table are those by places.
+-- The rules on dependencies refuse an event exactly if the history with it would not be legal, and the debts of the
+-- table are those by places.
 use Rattle.std.proofs.Common.{◌≡◌, ℕ, ◌+◌, Bool, true, false, ◌&&◌, not, List, [], ◌∷◌, ◌++◌, filter, length, map, Option, Some, None, refl, sym, ap, subst, ◌∙◌}
 use Rattle.std.specs.Prelude.{is_some, IfSome, if◌then◌else◌}
 use Rattle.std.specs.List.{list_any, list_all}
@@ -51,7 +51,7 @@ use Rattle.acta_machine.proofs.Starting.{spawn_due, split_due, holds_in, neutral
 use Rattle.acta_machine.proofs.StatusGrowth.{flipped, statuses-begin, statuses-spawn, statuses-split, statuses-commit, statuses-abort, statuses-join, ended-places, begun-places}
 use Rattle.acta_machine.proofs.Unbroken.{Unbroken}
 
--- what is broken by a rule on dependencies, if anything is
+-- the broken rule on dependencies, if any
 
 if_some : (o : Option Refusal) → ((r : Refusal) → o ≡ Some r → is_dependency_rule r.rule ≡ true) → IfSome o (λ r. is_dependency_rule r.rule ≡ true)
 if_some None rule = tt
@@ -69,7 +69,7 @@ dependency-rule s (Commit t) = if_some (commit_refusal s.status s.edges t.0) (co
 dependency-rule s (Abort t) = if_some (abort_refusal s.status s.edges t.0) (abort-rule s.status s.edges t.0)
 dependency-rule s (Permit t u ob) = tt
 
--- what is legal is legal by the courses
+-- legality by places is legality by courses
 legal-by : {A : Type 0} (m : Parts A) (h : List (Kept A)) → is_legal m h ≡ is_legal_by (course h) (edges m h)
 unfolding is_legal
 legal-by m h = refl
@@ -79,7 +79,7 @@ both_not true b e = absurd (true≢false (sym e))
 both_not false true e = absurd (true≢false (sym e))
 both_not false false e = (refl, refl)
 
--- of edges that are legal none is broken, and no debts clash
+-- no edge of a legal list is broken, and no debts clash
 legal-unbroken : (courses : ℕ → Course) (es : List Edge) → is_legal_by courses es ≡ true → list_any (is_broken_by courses) es ≡ false
 legal-unbroken courses es legal = (both_not (list_any (is_broken_by courses) es) (list_any (clashes_by courses es) es) legal).0
 
@@ -90,7 +90,7 @@ legal-calm courses es legal = (both_not (list_any (is_broken_by courses) es) (li
 unbroken-edges : {A : Type 0} (m : Parts A) (h : List (Kept A)) → is_legal m h ≡ true → list_any (is_broken_by (course h)) (edges m h) ≡ false
 unbroken-edges m h legal = legal-unbroken (course h) (edges m h) (sym (legal-by m h) ∙ legal)
 
--- the course of one that has not begun, and of one in progress
+-- the course of a transaction that has not begun, and of one in progress
 no_start : (c : Course) → course_status c ≡ NotBegun → c.start ≡ None
 no_start c = of c.start c.commit c.abort c.join
   where
@@ -101,7 +101,7 @@ no_start c = of c.start c.commit c.abort c.join
     of (Some n) None None (Some x) e = cc
     of (Some n) None None None e = cc
 
--- how one in progress has not ended
+-- a transaction in progress has not ended
 record NoEnd (c : Course) : Type 0 where
   commit : c.commit ≡ None
   abort : c.abort ≡ None
@@ -116,19 +116,18 @@ no_end c = of c.start c.commit c.abort c.join
     of s None None (Some x) e = cc
     of s None None None e = record { commit = refl; abort = refl; join = refl }
 
--- of two that are so neither is the smallest where none is
+-- if there is no smallest of two conditional numbers, neither condition is true
 none_of : (a b : Bool) (j i : ℕ) → smallest (if a then j ∷ (if b then i ∷ [] else []) else (if b then i ∷ [] else [])) ≡ None → (a ≡ false) × (b ≡ false)
 none_of true true j i e = cc
 none_of true false j i e = cc
 none_of false true j i e = cc
 none_of false false j i e = (refl, refl)
 
--- the model is checked, if anybody is in progress
+-- the model is checked if any transaction is in progress
 abbrev pub IsChecked : {A : Type 0} → Parts A → Summary → Type 0
 IsChecked m s = (t : ℕ) → s.status t ≡ InProgress → lowest_fault m ≡ None
 
--- an event is refused exactly where the longer history is not legal, by each edge whose formula it leaves broken,
--- and by debts that meet
+-- an event is refused exactly if the longer history is not legal, edge by edge and for clashing debts
 pub record IsExactAs {A : Type 0} (m : Parts A) (later : List (Kept A)) (refused clash : Bool) (test : Edge → Bool) : Type 0 where
   pub refuses : refused ≡ not (is_legal m later)
   pub equivalent : map test (edges m later) ≡ map (is_broken_in later) (edges m later)
@@ -137,14 +136,14 @@ pub record IsExactAs {A : Type 0} (m : Parts A) (later : List (Kept A)) (refused
 abbrev pub IsExact : {A : Type 0} → Parts A → List (Kept A) → Summary → Event A → Type 0
 IsExact m later s e = IsExactAs m later (is_some (dependency s e)) (debts_meet s e) (edge_refuses s e)
 
--- where no test passes, tests that never pass are the same
+-- if no edge passes a test, the test equals one that never passes
 none-equivalent : (test : Edge → Bool) (es : List Edge) → list_any test es ≡ false → map (λ _. false) es ≡ map test es
 none-equivalent test [] none = refl
 none-equivalent test (e ∷ es) none =
     let parts = or_parts (test e) (list_any test es) none in
     λ x. sym parts.0 x ∷ none-equivalent test es parts.1 x
 
--- an event by which nothing is refused leaves the history legal
+-- an event that cannot be refused leaves the history legal
 legal-exact : {A : Type 0} (m : Parts A) (later : List (Kept A)) → is_legal m later ≡ true → IsExactAs m later false false (λ _. false)
 legal-exact m later legal =
     let by_courses = sym (legal-by m later) ∙ legal in
@@ -154,7 +153,7 @@ legal-exact m later legal =
       clashes = sym (legal-calm (course later) (edges m later) by_courses);
     }
 
--- what is exact by the courses and these edges is so in the longer history, whose edges they are
+-- exactness by courses and these edges is exactness in the longer history, which has these edges
 exact-in : {A : Type 0} (m : Parts A) (later : List (Kept A)) (es : List Edge) (refused refused_by clash clash_by : Bool) (test : Edge → Bool) → edges m later ≡ es → refused ≡ refused_by → clash ≡ clash_by
     → IsExactBy (course later) es refused_by clash_by test → IsExactAs m later refused clash test
 exact-in m later es refused refused_by clash clash_by test grown refuses clashes by = record {
@@ -203,7 +202,7 @@ module _ {A : Type 0} (m : Parts A) (h : List (Kept A)) (shows : ShowsPlaces m h
       (λ v ne. course-other h (record { event = e; ret = ret }) v refl refl (flipped t.0 v ne) refl) later.courses
       on (course-abort h t ret (no_end (course h t.0) (sym (shows.status t.0) ∙ on)).abort) (statuses-abort s.status h ret t shows.status on))
 
-  -- one that joins another
+  -- a transaction joins another
   exact-join : (t v : TxnId) (ret : Option Ret) → Unbroken m s (Join t v) → IsOrderly m (with_event (Join t v) ret)
       → IsExact m (with_event (Join t v) ret) s (Join t v)
   unfolding not_in_progress
@@ -219,7 +218,7 @@ module _ {A : Type 0} (m : Parts A) (h : List (Kept A)) (shows : ShowsPlaces m h
   still_open : (w : ℕ) (x : Status) → s.status w ≡ x → by_status.has_ended x ≡ false → is_some (end (course h w)) ≡ false
   still_open w x is calm = sym (ended-places h w) ∙ ap by_status.has_ended (sym (shows.status w) ∙ is) ∙ calm
 
-  -- one that is started by t: its edges are formed first, which bar nothing, and then it starts
+  -- t starts another transaction: its edges are formed first, and block nothing
   exact-start : (k : Kept A) (v : ℕ) (due : List Edge) → s.status v ≡ NotBegun → edges m (h ++ k ∷ []) ≡ formed (edges m h) due
       → list_all (is_neutral s.status v) due ≡ true → list_all (holds_in (course h)) due ≡ true
       → ((w : ℕ) → (w ≡ v → ⊥) → course (h ++ k ∷ []) w ≡ course h w) → course (h ++ k ∷ []) v ≡ record (course h v) { start = Some (length h + 1) }
@@ -262,7 +261,7 @@ module _ {A : Type 0} (m : Parts A) (h : List (Kept A)) (shows : ShowsPlaces m h
       (course-split h t v class ops ret (no_start (course h v.0) (sym (shows.status v.0) ∙ new)))
       (statuses-split s.status h ret t v class ops shows.status new) later
 
-  -- the formula of an edge that is formed in time holds
+  -- the formula of an edge that is formed in time is true
   formed-holds : (kind : Dep) (j i : TxnId) → too_late s kind j.0 i.0 ≡ None → is_false kind (course h j.0) (course h i.0) ≡ false
   formed-holds kind j i none = of_kind (is_begin_kind kind) refl none
     where
@@ -288,7 +287,7 @@ module _ {A : Type 0} (m : Parts A) (h : List (Kept A)) (shows : ShowsPlaces m h
       of_known true = sym (legal-by m h) ∙ meets.legal
       of_known false = forms-legal (course h) (edges m h) (record { kind = kind; j = j; i = i }) (sym (legal-by m h) ∙ meets.legal) (formed-holds kind j i (by_none FormTooLate _ u.time))
 
-  -- so does an operation, whose edges hold
+  -- so does an operation: the formulas of its edges are true
   legal-operate : IsChecked m s → AreHeldWell s → (t : TxnId) (ob : ObjId) (op : Op) (ret : Option Ret) → Unbroken m s (Operate t ob op) → is_legal m (with_event (Operate t ob op) ret) ≡ true
   unfolding not_in_progress
   legal-operate checked well t ob op ret u =
@@ -301,13 +300,13 @@ module _ {A : Type 0} (m : Parts A) (h : List (Kept A)) (shows : ShowsPlaces m h
       ∙ all-legal (course h) (edges m h) due (sym (legal-by m h) ∙ meets.legal)
       (holding-conflicts m s (course h) (checked t.0 on) well t ob op (still_open t.0 InProgress on refl) open_on)
 
-  -- and what is handed over
+  -- so does a delegation
   legal-delegate : (t v : TxnId) (ops : _) (ret : Option Ret) → is_legal m (with_event (Delegate t v ops) ret) ≡ true
   legal-delegate t v ops ret =
       let k : Kept A = record { event = Delegate t v ops; ret = ret } in
       legal-by m (h ++ k ∷ []) ∙ (λ n. is_legal_by (λ w. course-other h k w refl refl refl refl n) (edges-push m h k n)) ∙ sym (legal-by m h) ∙ meets.legal
 
-  -- a permit leaves it as it was
+  -- so does a permit
   legal-permit : (t v : TxnId) (ob : ObjId) (ret : Option Ret) → is_legal m (with_event (Permit t v ob) ret) ≡ true
   legal-permit t v ob ret =
       let k : Kept A = record { event = Permit t v ob; ret = ret } in
@@ -329,7 +328,7 @@ pub exact-on : {A : Type 0} (m : Parts A) (h : List (Kept A)) (k : Kept A) → I
     → IsExact m (h ++ k ∷ []) (summary_of m h) k.event
 exact-on m h k checked well shows meets orderly u later = exact-of m h shows meets orderly checked well k.event k.ret u later
 
--- what is owed by the table is what is owed by places
+-- the debts by the table are the debts by places
 pub owed-places : {A : Type 0} (m : Parts A) (h : List (Kept A)) → ShowsPlaces m h (summary_of m h) → IsOrderly m h → owed_in (summary_of m h).status (summary_of m h).edges ≡ owed m h
 unfolding owed
 owed-places m h shows orderly =

@@ -25,7 +25,7 @@ through : {X Y Z : Type 0} (f : Y → Option Z) (g : X → Y) (o : Option X) →
 through f g None = refl
 through f g (Some x) = refl
 
--- the classes that pass a test
+-- classes that pass a test
 pub has_class-places : {A : Type 0} (test : Class A → Bool) (m : Parts A) (h : List (Kept A)) (s : Summary) → ShowsPlaces m h s → (t : ℕ) → by_places.has_class test m h t ≡ has_class test m s t
 has_class-places test m h s shows t =
     sym (ap (λ k. option_map_or test k false) (sym (through (class_at m) (λ c. c.0) (s.class t)) ∙ ap (option_and_then (class_at m)) (shows.class t)))
@@ -40,7 +40,7 @@ heir-places m h s shows t =
     let same = sym (has_class-places (λ k. has_heir k.at_commit) m h s shows t) in
     λ i. if same i then shows.parent t i else None
 
--- how many events the summary of a history counts
+-- the number of events in the summary of a history
 
 settled_kept : (s : Summary) (t : TxnId) (o : Option TxnId) → (settled s t o).kept ≡ s.kept
 unfolding inherited fated
@@ -76,7 +76,7 @@ among_if : (b : Bool) (line : List TxnId) (u : TxnId) → (b && list_any (λ a. 
 among_if true line u = refl
 among_if false line u = refl
 
--- those whose operations on an object are left out of a conflict set
+-- the transactions whose operations on an object are exempt
 pub exempt-places : {A : Type 0} (m : Parts A) (h : List (Kept A)) → ShowsPlaces m h (summary_of m h) → (t object : ℕ) (u : TxnId) → is_exempt m h t object u.0 ≡ (is_among (exempt m (summary_of m h) t) u || (summary_of m h).permits u.0 t object)
 exempt-places m h shows t object u =
     λ n. ((λ i. has_class-places (λ k. exempts k.scope) m h (summary_of m h) shows t i && list_any (λ a. a.0 == u.0) (sym (ancestors-places m h shows t) i))

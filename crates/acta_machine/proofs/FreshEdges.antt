@@ -1,5 +1,5 @@
--- The edges that an event forms, where it breaks none of the rules before those on dependencies: they are between
--- transactions that there can be, and nothing is owed by them yet.
+-- The edges of an event that breaks no rule before those on dependencies: they are between valid transaction numbers
+-- and have no debt yet.
 use Rattle.std.proofs.Common.{if◌then◌else◌, ◌≡◌, ℕ, Bool, true, false, not, ◌&&◌, ◌||◌, List, [], ◌∷◌, filter, Option, Some, None, is_none, refl, sym, ap, ◌∙◌}
 use Rattle.std.specs.List.{list_any, list_all}
 use Rattle.std.specs.Option.{option_map_or}
@@ -54,7 +54,7 @@ unfolding bad_number
 good-names e none = none_bad is_bad_number (named e) (by_none BadNumber _ none)
 
 module _ (status : ℕ → Status) (nobody : (t : ℕ) → is_bad_number t ≡ true → status t ≡ NotBegun) where
-  -- one that is in progress has a number that there can be
+  -- a transaction in progress has a valid number
   good_running : (t : ℕ) → status t ≡ InProgress → is_bad_number t ≡ false
   good_running t on = of (is_bad_number t) refl
     where
@@ -62,12 +62,12 @@ module _ (status : ℕ → Status) (nobody : (t : ℕ) → is_bad_number t ≡ t
       of true is = absurd (true≢false (ap is_in_progress (sym on ∙ nobody t is)))
       of false is = refl
 
-  -- an edge on one that has not ended is fresh
+  -- an edge on a transaction that has not ended is fresh
   fresh-open : (e : Edge) → is_bad_number e.j.0 ≡ false → is_bad_number e.i.0 ≡ false → has_ended (status e.i.0) ≡ false → is_fresh_edge status e ≡ true
   fresh-open e j i on =
       λ x. not (j x) && not (i x) && is_none (not_ended e.kind (status e.i.0) (status e.j.0) (undecided (status e.i.0) on) x)
 
-  -- so is one of a kind that limits when j begins
+  -- so is an edge of a kind that limits when j begins
   fresh-begin : (e : Edge) → is_bad_number e.j.0 ≡ false → is_bad_number e.i.0 ≡ false → is_begin_kind e.kind ≡ true → is_fresh_edge status e ≡ true
   fresh-begin e j i is =
       λ x. not (j x) && not (i x) && is_none (of_begin e.kind (status e.i.0) (status e.j.0) is x)
@@ -78,7 +78,7 @@ module _ (status : ℕ → Status) (nobody : (t : ℕ) → is_bad_number t ≡ t
   fresh-between t u on good new kind Started other =
       fresh-open (directed kind t u Started) good (good_running t.0 on) (ap has_ended on)
 
--- an edge that comes in time
+-- an edge that is formed in time is fresh
 fresh-formed : (s : Summary) (kind : Dep) (j i : TxnId) → is_bad_number j.0 ≡ false → is_bad_number i.0 ≡ false → too_late s kind j.0 i.0 ≡ None → ((t : ℕ) → is_bad_number t ≡ true → s.status t ≡ NotBegun) → is_fresh_edge s.status (record { kind = kind; j = j; i = i }) ≡ true
 fresh-formed s kind j i good_j good_i none nobody = of (is_begin_kind kind) refl none
   where

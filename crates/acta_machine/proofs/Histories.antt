@@ -1,4 +1,4 @@
--- The summary of a history that is one event longer, and of none.
+-- The summary of the empty history, and of a history with one more event.
 use Rattle.std.proofs.Common.{◌≡◌, ℕ, suc, ◌+◌, ◌≤◌, List, [], ◌∷◌, ◌++◌, length, refl, arith, ◌∙◌, ap, sym, Option, Some, None, length-append}
 use Rattle.std.proofs.lemmas.List.{length-map}
 use Rattle.acta_machine.specs.declared.machine_state.TxnRecord.{TxnRecord}
@@ -21,12 +21,12 @@ summary_from_more : {A : Type 0} (m : Parts A) (s : Summary) (history : List (Ke
 summary_from_more m s [] k = refl
 summary_from_more m s (h ∷ hs) k = summary_from_more m (effect m s h.event) hs k
 
--- one more event has its effect on the summary
+-- one more event applies its effect to the summary
 pub summary_more : {A : Type 0} (m : Parts A) (history : List (Kept A)) (k : Kept A) → summary_of m (history ++ k ∷ []) ≡ effect m (summary_of m history) k.event
 unfolding summary_of
 summary_more m history k = summary_from_more m nothing_yet history k
 
--- fresh tables with nothing kept show the summary before any event
+-- new tables with an empty history represent the summary before any event
 pub fresh_summary : {A : Type 0} (m : Parts A) (deps : DepState) (records : List TxnRecord) (operations : List HeldOp) (permits : Permitted) (kept : List (Kept A)) → deps ≡ record { statuses = []; edges = [] } → records ≡ [] → operations ≡ [] → permits ≡ none_permitted → kept ≡ [] → summary_in deps records operations permits kept ≡ summary_of m kept
 unfolding summary_of
 fresh_summary m deps records operations permits kept new none no_operation no_permit empty =
@@ -46,7 +46,7 @@ length-moved : (n : ℕ) (ops : List OpNo) (u : TxnId) (items : List HeldOp) →
 length-moved n ops u [] = refl
 length-moved n ops u (i ∷ items) = ap suc (length-moved (n + 1) ops u items)
 
--- what becomes of operations at a commit leaves their number
+-- a commit does not change the number of operations
 settled_few : (s : Summary) (t : TxnId) (heir : Option TxnId) → length (counted (settled (terminated s t Committed) t heir)).operations ≤ length s.operations + 1
 unfolding terminated inherited fated counted
 settled_few s t None = simp length-map (omega arith)
@@ -72,7 +72,7 @@ few_from : {A : Type 0} (m : Parts A) (s : Summary) (history : List (Kept A)) �
 few_from m s [] = omega arith
 few_from m s (k ∷ ks) = omega (arith, changed_few m s k, few_from m (effect m s k.event) ks)
 
--- no more operations than events
+-- there are no more operations than events
 pub operations_few : {A : Type 0} (m : Parts A) (history : List (Kept A)) → length (summary_of m history).operations ≤ length history
 unfolding summary_of
 operations_few m history = let h = few_from m nothing_yet history in omega (arith, h)

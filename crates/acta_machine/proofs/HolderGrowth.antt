@@ -1,4 +1,4 @@
--- Who holds an operation in progress is in progress, and stays so when one event has its effect.
+-- Invariant: the holder of every operation in progress is in progress.
 use Rattle.std.proofs.Common.{◌≡◌, ℕ, ◌+◌, ◌==◌, Bool, true, false, ◌&&◌, ◌||◌, not, List, [], ◌∷◌, ◌++◌, map, refl, ap, eq-eqb, inl, inr}
 use Rattle.std.specs.Prelude.{if◌then◌else◌}
 use Rattle.std.specs.List.{list_all}
@@ -22,7 +22,7 @@ both : (a b : Bool) → (a && b) ≡ true → (a ≡ true) × (b ≡ true)
 both true b e = (refl, e)
 both false b e = cc
 
--- what holds of each item holds of each that is made of it
+-- a property of each item carries over to the items made from them
 all-map : (p q : HeldOp → Bool) (f : HeldOp → HeldOp) → ((i : HeldOp) → p i ≡ true → q (f i) ≡ true) → (items : List HeldOp) → list_all p items ≡ true → list_all q (map f items) ≡ true
 all-map p q f each [] all = refl
 all-map p q f each (i ∷ items) all =
@@ -35,13 +35,13 @@ all-kept p q each (i ∷ items) all =
     let parts = both (p i) (list_all p items) all in
     λ x. each i parts.0 x && all-kept p q each items parts.1 x
 
--- an operation in progress is held well where its holder still is in progress
+-- an operation in progress keeps the invariant if its holder is still in progress
 stays : (fate : Fate) (a b : Bool) → (a ≡ true → b ≡ true) → (not (is_open fate) || a) ≡ true → (not (is_open fate) || b) ≡ true
 stays InProgress a b later e = later e
 stays Committed a b later e = refl
 stays Aborted a b later e = refl
 
--- where t starts
+-- t starts
 still : (status : ℕ → Status) (t u : ℕ) → is_in_progress (status u) ≡ true → is_in_progress (with_status status t on_its_way u) ≡ true
 still status t u on = of (u == t)
   where
@@ -54,7 +54,7 @@ well-started status t items all =
     all-kept (is_held_well status) (is_held_well (with_status status t on_its_way))
     (λ i. stays i.fate (is_in_progress (status i.holder.0)) (is_in_progress (with_status status t on_its_way i.holder.0)) (still status t i.holder.0)) items all
 
--- where u, in progress, is given operations
+-- u, in progress, gets operations
 well-moved : (status : ℕ → Status) (n : ℕ) (ops : List OpNo) (u : TxnId) → is_in_progress (status u.0) ≡ true → (items : List HeldOp) → list_all (is_held_well status) items ≡ true → list_all (is_held_well status) (moved_from n ops u items) ≡ true
 well-moved status n ops u on [] all = refl
 well-moved status n ops u on (i ∷ items) all =
@@ -72,7 +72,7 @@ well-moved status n ops u on (i ∷ items) all =
 pub well-given : (status : ℕ → Status) (ops : List OpNo) (u : TxnId) → is_in_progress (status u.0) ≡ true → (items : List HeldOp) → list_all (is_held_well status) items ≡ true → list_all (is_held_well status) (moved ops u items) ≡ true
 well-given status ops u on items all = well-moved status 1 ops u on items all
 
--- where t ends, and u, in progress, holds all that it held
+-- t ends, and u, in progress, inherits its operations
 one-transferred : (status : ℕ → Status) (t : ℕ) (x : Status) (u : TxnId) → is_in_progress (with_status status t x u.0) ≡ true → (ob : ObjId) (op : Op) (v : TxnId) (fate : Fate) →
     is_held_well status (record { ob = ob; op = op; holder = v; fate = fate }) ≡ true → is_held_well (with_status status t x) (transferred_op t u (record { ob = ob; op = op; holder = v; fate = fate })) ≡ true
 one-transferred status t x u on ob op v InProgress e = elim (cases_eq v.0 t) [ inl same ↦ rw (eq-eqb v.0 t same) on | inr ne ↦ rw (ne_eqb v.0 t ne, ne_eqb v.0 t ne) e ]
@@ -83,7 +83,7 @@ pub well-transferred : (status : ℕ → Status) (t : ℕ) (x : Status) (u : Txn
 well-transferred status t x u on items all =
     all-map (is_held_well status) (is_held_well (with_status status t x)) (transferred_op t u) (λ i. one-transferred status t x u on i.ob i.op i.holder i.fate) items all
 
--- where t ends, and all that it held ends with it
+-- t ends, and so do its operations
 one-ended : (status : ℕ → Status) (t : ℕ) (x : Status) (end : Fate) → is_open end ≡ false → (ob : ObjId) (op : Op) (v : TxnId) (fate : Fate) →
     is_held_well status (record { ob = ob; op = op; holder = v; fate = fate }) ≡ true → is_held_well (with_status status t x) (ended_op t end (record { ob = ob; op = op; holder = v; fate = fate })) ≡ true
 one-ended status t x end closed ob op v InProgress e = elim (cases_eq v.0 t) [ inl same ↦ rw (eq-eqb v.0 t same) (ap (λ b. not b || is_in_progress (with_status status t x v.0)) closed) | inr ne ↦ rw (ne_eqb v.0 t ne, ne_eqb v.0 t ne) e ]
@@ -94,7 +94,7 @@ pub well-ended : (status : ℕ → Status) (t : ℕ) (x : Status) (end : Fate) �
 well-ended status t x end closed items all =
     all-map (is_held_well status) (is_held_well (with_status status t x)) (ended_op t end) (λ i. one-ended status t x end closed i.ob i.op i.holder i.fate) items all
 
--- where t, in progress, does an operation
+-- t, in progress, does an operation
 all-more : (p : HeldOp → Bool) (items : List HeldOp) (i : HeldOp) → list_all p items ≡ true → p i ≡ true → list_all p (items ++ i ∷ []) ≡ true
 all-more p [] i all here = ap (λ b. b && true) here
 all-more p (k ∷ items) i all here =

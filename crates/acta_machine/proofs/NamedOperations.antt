@@ -1,4 +1,4 @@
--- An operation that a rule names is there.
+-- An operation that a rule names exists.
 use Rattle.std.proofs.Common.{◌≡◌, ℕ, not, false, List, Some, None, sym, ap, ◌∙◌}
 use Rattle.std.specs.Option.{option_map_or}
 use Rattle.std.proofs.lemmas.Bool.{true≢false}

@@ -1,4 +1,4 @@
--- The operations of the table are those by places, and stay so when one event is put at the end.
+-- The operations of the table are those by places, also after one more event.
 use Rattle.std.proofs.Common.{◌≡◌, ℕ, suc, ◌+◌, ◌==◌, Bool, true, false, ◌&&◌, cond, List, [], ◌∷◌, ◌++◌, map, slice_get, Option, Some, None, refl, sym, ap, ◌∙◌, arith, eq-eqb, inl, inr}
 use Rattle.std.specs.List.{filter_map, cons_option}
 use Rattle.std.specs.Option.{option_map_or}
@@ -33,7 +33,7 @@ map-same : {X Y : Type 0} (f g : X → Y) → ((x : X) → f x ≡ g x) → (xs 
 map-same f g same [] = refl
 map-same f g same (x ∷ xs) = λ i. same x i ∷ map-same f g same xs i
 
--- an event that ends nobody leaves an operation as it stands
+-- an event that ends no transaction leaves an operation unchanged
 idle : (fate : Fate) (t : ℕ) → (if is_open fate then held_by t else record { holder = t; fate = fate }) ≡ record { holder = t; fate = fate }
 idle InProgress t = refl
 idle Committed t = refl
@@ -54,7 +54,7 @@ operations-spawn {A} m h ret t c class =
     ∙ append-nil (map (λ o. held_op o (carried m o.number (standing m h o) (at_end h k))) (operations h))
     ∙ map-same _ _ (λ o. ap (held_op o) (idle (standing m h o).fate (standing m h o).holder)) (operations h)
 
--- nor does an edge that is formed
+-- neither does forming an edge
 pub operations-form : {A : Type 0} (m : Parts A) (h : List (Kept A)) (ret : Option Ret) (kind : Dep) (j i : TxnId) → held_ops m (h ++ (record { event = Form kind j i; ret = ret }) ∷ []) ≡ held_ops m h
 operations-form {A} m h ret kind j i =
     let k : Kept A = record { event = Form kind j i; ret = ret } in
@@ -69,7 +69,7 @@ operations-permit {A} m h ret t u ob =
     ∙ append-nil (map (λ o. held_op o (carried m o.number (standing m h o) (at_end h k))) (operations h))
     ∙ map-same _ _ (λ o. ap (held_op o) (idle (standing m h o).fate (standing m h o).holder)) (operations h)
 
--- an operation comes to the others, in progress and held by its invoker
+-- an operation is appended, in progress and held by its invoker
 pub operations-operate : {A : Type 0} (m : Parts A) (h : List (Kept A)) (ret : Option Ret) (t : TxnId) (ob : ObjId) (op : Op) → held_ops m (h ++ (record { event = Operate t ob op; ret = ret }) ∷ []) ≡ added (held_ops m h) t ob op
 operations-operate {A} m h ret t ob op =
     let k : Kept A = record { event = Operate t ob op; ret = ret } in
@@ -84,7 +84,7 @@ and_false : (b : Bool) → (b && false) ≡ false
 and_false true = refl
 and_false false = refl
 
--- what is handed over, by the table and by places
+-- a transfer, by the table and by places
 gives : (t : ℕ) (u : TxnId) (b : Bool) (o : Operation) (holder : ℕ) (fate : Fate) → (b ≡ true → ((holder == t) && is_open fate) ≡ true) →
     held_op o (if is_open fate then (if (t == holder) && b then held_by u.0 else held_by holder) else record { holder = holder; fate = fate })
     ≡ (if b then record (held_op o (record { holder = holder; fate = fate })) { holder = u } else held_op o (record { holder = holder; fate = fate }))
@@ -101,7 +101,7 @@ gives t u true o holder InProgress held =
 gives t u true o holder Committed held = absurd (true≢false (sym (held refl) ∙ and_false (holder == t)))
 gives t u true o holder Aborted held = absurd (true≢false (sym (held refl) ∙ and_false (holder == t)))
 
--- the operations behind some items, handed over by number
+-- the operations after some items, transferred by number
 named-transferred : {A : Type 0} (show : Operation → HeldOp) (over : Operation → HeldOp) (holding : HeldOp → Bool) (ops : List OpNo) (u : TxnId) →
     ((o : Operation) → (is_named ops o.number ≡ true → holding (show o) ≡ true) → over o ≡ (if is_named ops o.number then record (show o) { holder = u } else show o)) →
     (before ks : List (Kept A)) → ((i : ℕ) → is_named ops (number_after before + i) ≡ true → option_map_or holding (slice_get (map show (filter_map operation_at (places_behind before ks))) i) false ≡ true) →
@@ -124,7 +124,7 @@ named-transferred {A} show over holding ops u one before (k ∷ ks) held =
         let same : number_after (before ++ k ∷ []) ≡ number_after before = omega (arith, grown) in
         later (λ i named. held i (ap (λ n. is_named ops (n + i)) (sym same) ∙ named)) ∙ ap (λ n. moved_from n ops u (map show (filter_map operation_at (places_behind (before ++ k ∷ []) ks)))) same
 
--- what t hands over, all of which it holds, u holds
+-- a delegation by t of operations that it holds
 pub operations-delegate : {A : Type 0} (m : Parts A) (h : List (Kept A)) (ret : Option Ret) (t u : TxnId) (ops : List OpNo) →
     ((n : ℕ) → is_named ops n ≡ true → holds (held_ops m h) t.0 n ≡ true) → held_ops m (h ++ (record { event = Delegate t u ops; ret = ret }) ∷ []) ≡ moved ops u (held_ops m h)
 operations-delegate {A} m h ret t u ops held =
@@ -135,7 +135,7 @@ operations-delegate {A} m h ret t u ops held =
     (λ o named. gives t.0 u (is_named ops o.number) o (standing m h o).holder (standing m h o).fate named)
     [] h (λ i named. let same : 1 + i ≡ suc i = omega arith in held (suc i) (sym (ap (is_named ops) same) ∙ named))
 
--- so does the one that t splits off
+-- a split likewise
 pub operations-split : {A : Type 0} (m : Parts A) (h : List (Kept A)) (ret : Option Ret) (t u : TxnId) (class : ClassId) (ops : List OpNo) →
     ((n : ℕ) → is_named ops n ≡ true → holds (held_ops m h) t.0 n ≡ true) → held_ops m (h ++ (record { event = Split t u class ops; ret = ret }) ∷ []) ≡ moved ops u (held_ops m h)
 operations-split {A} m h ret t u class ops held =
@@ -146,7 +146,7 @@ operations-split {A} m h ret t u class ops held =
     (λ o named. gives t.0 u (is_named ops o.number) o (standing m h o).holder (standing m h o).fate named)
     [] h (λ i named. let same : 1 + i ≡ suc i = omega arith in held (suc i) (sym (ap (is_named ops) same) ∙ named))
 
--- what t held when it joins u, by the table and by places
+-- a join of t with u, by the table and by places
 transfers : (t v : ℕ) (u : TxnId) (o : Operation) (old : Fate) →
     held_op o (if is_open old then (if t == v then held_by u.0 else held_by v) else record { holder = v; fate = old })
     ≡ transferred_op t u (held_op o (record { holder = v; fate = old }))
@@ -178,14 +178,14 @@ ends t u o fate InProgress =
       | inr ne ↦ let en : t ≡ u → ⊥ = λ e. ne (sym e) in rw (ne_eqb u t ne, ne_eqb t u en) refl
     ]
 
--- the commit of t, by places, where the heirs are these
+-- the commit of t by places, given the heirs
 abbrev settled_by : (ℕ → Option TxnId) → ℕ → ℕ → Fate → Standing
 settled_by heirs t v old =
     if is_open old
     then (if t == v then option_map_or (λ u. held_by u.0) (heirs v) (ended_by v Committed) else held_by v)
     else record { holder = v; fate = old }
 
--- one without an heir ends
+-- without an heir its operations are committed
 settles : (heirs : ℕ → Option TxnId) (t v : ℕ) (o : Operation) (old : Fate) → heirs t ≡ None → held_op o (settled_by heirs t v old) ≡ ended_op t Committed (held_op o (record { holder = v; fate = old }))
 settles heirs t v o Committed none = elim (cases_eq v t) [ inl e ↦ rw (eq-eqb v t e) refl | inr ne ↦ rw (ne_eqb v t ne) refl ]
 settles heirs t v o Aborted none = elim (cases_eq v t) [ inl e ↦ rw (eq-eqb v t e) refl | inr ne ↦ rw (ne_eqb v t ne) refl ]
@@ -203,7 +203,7 @@ operations-commit {A} m h ret t none =
     ∙ map-same _ _ (λ o. settles (heir m h) t.0 (standing m h o).holder o (standing m h o).fate none) (operations h)
     ∙ sym (map-map (ended_op t.0 Committed) (λ o. held_op o (standing m h o)) (operations h))
 
--- one with an heir leaves all to it
+-- with an heir they are transferred to it
 leaves : (heirs : ℕ → Option TxnId) (t v : ℕ) (u : TxnId) (o : Operation) (old : Fate) → heirs t ≡ Some u → held_op o (settled_by heirs t v old) ≡ transferred_op t u (held_op o (record { holder = v; fate = old }))
 leaves heirs t v u o Committed is = elim (cases_eq v t) [ inl e ↦ rw (eq-eqb v t e) refl | inr ne ↦ rw (ne_eqb v t ne) refl ]
 leaves heirs t v u o Aborted is = elim (cases_eq v t) [ inl e ↦ rw (eq-eqb v t e) refl | inr ne ↦ rw (ne_eqb v t ne) refl ]

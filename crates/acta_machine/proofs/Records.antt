@@ -1,4 +1,4 @@
--- The table of origins with one entry changed.
+-- The table of records with one entry changed.
 use Rattle.std.proofs.Common.{◌≡◌, ℕ, ◌<◌, List, length, get_or, set, sym, ap, ◌∙◌, eq-eqb, inl, inr}
 use Rattle.std.specs.Prelude.{if◌then◌else◌}
 use Rattle.std.proofs.lemmas.Bool.{ne_eqb, cases_eq}
@@ -9,7 +9,7 @@ use Rattle.acta_machine.specs.declared.machine_state.TxnRecord.{TxnRecord}
 use Rattle.acta_machine.specs.Summary.{with_entry}
 use Rattle.acta_machine.specs.inside.Abstraction.{unbegun, record_in}
 
--- what is shown of each entry is what is shown of the new one at t, and else what was shown
+-- an entry's property is that of the new record at t, and unchanged elsewhere
 pub record_of-entered : {X : Type 0} (show : TxnRecord → X) (records : List TxnRecord) (t : ℕ) (o : TxnRecord) → t < length records → (u : ℕ) → show (record_in (set records t o) u) ≡ with_entry (λ v. show (record_in records v)) t (show o) u
 record_of-entered show records t o within u =
     ap show (unwrap_or-slice_get (set records t o) u unbegun)
@@ -22,6 +22,6 @@ record_of-entered show records t o within u =
           ∙ sym (ap (λ b. if b then show o else show (record_in records u)) (ne_eqb u t ne))
     ]
 
--- tables with the same entries show the same origins
+-- tables with the same entries have the same records
 pub same_records : (xs ys : List TxnRecord) → ((u : ℕ) → get_or xs u unbegun ≡ get_or ys u unbegun) → (u : ℕ) → record_in xs u ≡ record_in ys u
 same_records xs ys same u = unwrap_or-slice_get xs u unbegun ∙ same u ∙ sym (unwrap_or-slice_get ys u unbegun)

@@ -1,4 +1,4 @@
--- Where nothing was refused.
+-- The case that no rule is broken.
 use Rattle.std.proofs.Common.{◌≡◌, List, [], sym, subst, arith}
 use Rattle.acta_table.specs.declared.model.Parts.{Parts}
 use Rattle.acta_machine.specs.Summary.{Summary}

@@ -1,4 +1,4 @@
--- Every run follows its places.
+-- Every run agrees with the definitions by places.
 use Rattle.std.proofs.Common.{◌≡◌, List, [], ◌∷◌, Option, Some, None, refl, ap, ◌∙◌}
 use Rattle.acta_table.specs.declared.answer.Refusal.{Refusal}
 use Rattle.acta_table.specs.declared.event.Event.{Event}

@@ -1,4 +1,4 @@
--- The sets and values that the machine's readers show are those by places.
+-- The sets and values returned by the machine's queries are those by places.
 use Rattle.std.proofs.Common.{◌≡◌, ℕ, Bool, List, [], ◌∷◌, map, filter, Option, Some, None, refl, sym, ap, ◌∙◌}
 use Rattle.std.specs.Prelude.{if◌then◌else◌, option_map}
 use Rattle.std.proofs.lemmas.Simd.{map-map}
@@ -34,7 +34,7 @@ where-places m h items test by same equivalent =
     ∙ map-map (λ n. record { 0 = n }) (λ (o : Operation). o.number) (filter (λ o. test (held_op o (standing m h o))) (operations h))
     ∙ ap op_numbers (filter-same (λ o. test (held_op o (standing m h o))) by equivalent (operations h))
 
--- the numbers of t's access set by places, by the table
+-- the numbers of t's access set
 pub held-places : {A : Type 0} (m : Parts A) (h : List (Kept A)) (items : List HeldOp) (t : ℕ) → items ≡ held_ops m h → map (λ o. o.number) (by_places.access_set m h t) ≡ numbers_where (is_held t) items
 held-places m h items t same =
     numbers-shown (λ o. held_op o (standing m h o)) (is_held t) h

@@ -1,4 +1,4 @@
--- The edges that a spawn or a split forms: they bar no start, nothing is owed by them, and their formulas hold.
+-- The edges that a spawn or a split forms block no start and have no debts, and their formulas are true.
 use Rattle.std.proofs.Common.{◌≡◌, ℕ, zero, suc, Bool, true, false, ◌&&◌, not, ◌==◌, List, [], ◌∷◌, slice_get, Option, Some, None, is_some, refl, ap, eq-eqb}
 use Rattle.std.specs.Prelude.{if◌then◌else◌}
 use Rattle.std.specs.List.{list_any, list_all}
@@ -30,7 +30,7 @@ use Rattle.acta_machine.proofs.Broken.{or_none}
 use Rattle.acta_machine.proofs.DependencyTies.{is_neutral, neutral-edge}
 use Rattle.acta_machine.proofs.EdgeSteps.{formed-other}
 
--- the edges that are due where t spawns or splits off u with the class
+-- the edges formed when t spawns or splits off u with the class
 abbrev pub spawn_due : {A : Type 0} → Parts A → TxnId → TxnId → ClassId → List Edge
 spawn_due m t u class = option_map_or (λ k. edges_between t u k.spawn_edges) (class_at m class.0) []
 
@@ -46,12 +46,12 @@ any-at test [] i none = refl
 any-at test (x ∷ xs) zero none = (or_parts (test x) (list_any test xs) none).0
 any-at test (x ∷ xs) (suc i) none = any-at test xs i (or_parts (test x) (list_any test xs) none).1
 
--- no class of a checked model wants an edge of a begin kind at a start
+-- no class of a checked model has a start edge of a begin kind
 plain-class : {A : Type 0} (m : Parts A) → lowest_fault m ≡ None → (class : ℕ) → option_map_or has_begin_kind (class_at m class) false ≡ false
 plain-class m faultless class =
     any-at has_begin_kind m.classes class (no_fault (list_any has_begin_kind m.classes) BeginKindAtStart (or_none _ (fault_if (list_any has_begin_kind m.classes) BeginKindAtStart) (or_none _ (fault_if (list_any lacks_parents m.classes) HeirWithoutSpawn) (or_none _ (fault_if (list_any (λ k. is_bad_policy k.policy) m.classes) BadPolicyKind) faultless).0).0).1)
 
--- what holds of each edge of another kind between t and u holds of those that are due
+-- a property of every edge of another kind between t and u is a property of the edges formed
 each-between : (p : Edge → Bool) (t u : TxnId) → ((kind : Dep) (d : Dependent) → is_begin_kind kind ≡ false → p (directed kind t u d) ≡ true)
     → (es : List StartEdge) → list_any (λ e. is_begin_kind e.kind) es ≡ false → list_all p (edges_between t u es) ≡ true
 each-between p t u each [] plain = refl
@@ -75,7 +75,7 @@ module _ {A : Type 0} (p : Edge → Bool) (m : Parts A) (faultless : lowest_faul
       of_class None plain = refl
       of_class (Some k) plain = each-between p t u each k.split_edges (or_parts (has_begin_edge k.spawn_edges) (has_begin_edge k.split_edges) plain).1
 
--- t is in progress, and u is once it has started
+-- t is in progress, and so is u once it has started
 on_then : (status : ℕ → Status) (t u : ℕ) → status t ≡ InProgress → with_status status u InProgress t ≡ InProgress
 on_then status t u on = of (t == u)
   where
@@ -96,7 +96,7 @@ neutral-spawn m status t u class faultless on = each-spawned (is_neutral status 
 pub neutral-split : {A : Type 0} (m : Parts A) (status : ℕ → Status) (t u : TxnId) (class : ClassId) → lowest_fault m ≡ None → status t.0 ≡ InProgress → list_all (is_neutral status u.0) (split_due m t u class) ≡ true
 neutral-split m status t u class faultless on = each-split (is_neutral status u.0) m faultless t u class (neutral status t u on)
 
--- whether the formula of the edge holds
+-- whether the formula of the edge is true
 abbrev pub holds_in : (ℕ → Course) → Edge → Bool
 holds_in courses f = not (is_false f.kind (courses f.j.0) (courses f.i.0))
 
@@ -112,7 +112,7 @@ pub holding-split : {A : Type 0} (m : Parts A) (courses : ℕ → Course) (t u :
     → list_all (holds_in courses) (split_due m t u class) ≡ true
 holding-split m courses t u class faultless t_open u_open = each-split (holds_in courses) m faultless t u class (holding courses t u t_open u_open)
 
--- no class of a checked model that can start by a begin or a split commits to a parent
+-- a class of a checked model that can start by a begin or a split does not commit to parents
 pub rooted-class : {A : Type 0} (m : Parts A) → lowest_fault m ≡ None → (class : ℕ) → option_map_or lacks_parents (class_at m class) false ≡ false
 rooted-class m faultless class =
     any-at lacks_parents m.classes class (no_fault (list_any lacks_parents m.classes) HeirWithoutSpawn (or_none _ (fault_if (list_any lacks_parents m.classes) HeirWithoutSpawn) (or_none _ (fault_if (list_any (λ k. is_bad_policy k.policy) m.classes) BadPolicyKind) faultless).0).1)

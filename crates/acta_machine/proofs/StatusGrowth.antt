@@ -1,4 +1,4 @@
--- Statuses, classes and parents by the table are those by places, when one event is put at the end.
+-- Statuses, classes and parents by the table are those by places, also after one more event.
 use Rattle.std.proofs.Common.{◌≡◌, ℕ, Bool, true, false, ◌==◌, List, [], ◌∷◌, ◌++◌, Option, Some, None, refl, sym, ap, ◌∙◌, eq-eqb, inl, inr}
 use Rattle.std.specs.Prelude.{option_map, option_and_then, is_some, if◌then◌else◌}
 use Rattle.std.proofs.lemmas.Bool.{ne_eqb, cases_eq}
@@ -19,11 +19,11 @@ use Rattle.acta_axioms.proofs.Statuses.{is_under_way, is_ended_status, has_begun
 use Rattle.acta_deps.specs.Statuses.{with_status, has_ended as has_ended_status}
 use Rattle.acta_machine.specs.Summary.{with_entry}
 
--- the tests for one and the same transaction, one way round and the other
+-- comparing transaction numbers is symmetric
 pub flipped : (t u : ℕ) → (u ≡ t → ⊥) → (t == u) ≡ false
 flipped t u apart = ne_eqb t u (λ e. apart (sym e))
 
--- t's status becomes the one that the event gives it, and every other stays
+-- t gets the status of the event, and every other status is unchanged
 pub statuses-tie : {A : Type 0} (f : ℕ → Status) (h : List (Kept A)) (k : Kept A) (t : ℕ) (x : Status) → ((u : ℕ) → f u ≡ status_at h u)
     → status_after t k.event (f t) ≡ x
     → ((u : ℕ) → (u ≡ t → ⊥) → status_after u k.event (status_at h u) ≡ status_at h u)
@@ -86,9 +86,9 @@ statuses-join {A} f h ret t v shows on =
     ((λ i. status_after t.0 e (on i)) ∙ ap (λ b. if b then Joined else InProgress) (eq-eqb t.0 t.0 refl))
     (λ u ne. ap (λ b. if b then when_joined (status_at h u) else status_at h u) (flipped t.0 u ne))
 
--- what a status tells by places
+-- what a status implies by places
 
--- one that ended by its status has by places
+-- a transaction that has ended by its status has ended by places
 pub ended-places : {A : Type 0} (h : List (Kept A)) (t : ℕ) → has_ended_status (status_at h t) ≡ has_ended h t
 ended-places h t = of_status (status_at h t) ∙ sym (has_ended-status h t)
   where
@@ -96,13 +96,13 @@ ended-places h t = of_status (status_at h t) ∙ sym (has_ended-status h t)
     of_status NotBegun = refl
     of_status s = refl
 
--- one that has not begun by its status has not by places
+-- a transaction that has not begun by its status has not begun by places
 pub begun-places : {A : Type 0} (h : List (Kept A)) (t : ℕ) → status_at h t ≡ NotBegun → has_begun h t ≡ false
 begun-places h t is = has_begun-status h t (ap is_ended_status is) ∙ ap is_under_way is
 
 -- classes
 
--- where a transaction has not begun, no class is named
+-- a transaction that has not begun has no class
 pub no_class : {A : Type 0} (h : List (Kept A)) (u : ℕ) → has_begun h u ≡ false → class_number h u ≡ None
 no_class h u = of (first (starts u) h)
   where
@@ -114,7 +114,7 @@ branch : {X : Type 0} (b : Bool) (x y : Option X) → (b ≡ false → x ≡ Non
 branch true x y none = refl
 branch false x y none = sym (none refl)
 
--- an event that does not start u leaves its class
+-- an event that does not start u does not change its class
 pub class-stays : {A : Type 0} (h : List (Kept A)) (k : Kept A) (u : ℕ) → starts u k.event ≡ false → class_number (h ++ k ∷ []) u ≡ class_number h u
 class-stays h k u idle =
     class_number-push h k u
@@ -153,7 +153,7 @@ classes-split f h ret t v class ops = classes-start f h (record { event = Split 
 
 -- parents
 
--- one that has not begun has no parent
+-- a transaction that has not begun has no parent
 pub no_parent : {A : Type 0} (h : List (Kept A)) (u : ℕ) → has_begun h u ≡ false → parent_of h u ≡ None
 no_parent h u = of (first (starts u) h)
   where
@@ -161,14 +161,14 @@ no_parent h u = of (first (starts u) h)
     of None e = refl
     of (Some q) e = cc
 
--- an event that does not start u leaves its parent
+-- an event that does not start u does not change its parent
 pub parent-stays : {A : Type 0} (h : List (Kept A)) (k : Kept A) (u : ℕ) → starts u k.event ≡ false → parent_of (h ++ k ∷ []) u ≡ parent_of h u
 parent-stays h k u idle =
     parent_of-push h k u
     ∙ ap (λ b. if has_begun h u then parent_of h u else if b then spawner h k.event else None) idle
     ∙ branch (has_begun h u) (parent_of h u) (spawner h k.event) (no_parent h u)
 
--- an event that starts t gives it the one that spawns by it as its parent, if one does
+-- an event that starts t gives it the spawning transaction as its parent, if it is a spawn
 pub parents-start : {A : Type 0} (f : ℕ → Option TxnId) (h : List (Kept A)) (k : Kept A) (t : TxnId) (parent : Option TxnId) → ((u : ℕ) → starts u k.event ≡ (t.0 == u)) → spawner h k.event ≡ parent
     → ((u : ℕ) → f u ≡ parent_of h u) → has_begun h t.0 ≡ false →
     (u : ℕ) → with_entry f t.0 parent u ≡ parent_of (h ++ k ∷ []) u

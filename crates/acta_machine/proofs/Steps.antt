@@ -1,4 +1,4 @@
--- An event that breaks no rule leaves a history that meets the axioms, and a summary that is that by places.
+-- After an event that breaks no rule, the history satisfies the axioms and the summary is that by places.
 use Rattle.std.proofs.Common.{◌≡◌, ℕ, Bool, true, false, ◌&&◌, ◌||◌, not, List, [], ◌∷◌, ◌++◌, map, filter, Option, Some, None, refl, sym, ap, ◌∙◌, subst, ◌⊎◌, inl, inr, ◌==◌, eq-eqb, arith}
 use Rattle.std.specs.Prelude.{option_map, option_and_then, option_to_list, is_some, IfSome, if◌then◌else◌}
 use Rattle.std.specs.List.{list_any, list_all}
@@ -84,7 +84,7 @@ use Rattle.acta_machine.proofs.ValueTies.{return-places, conflicting-none}
 well-formed : {A : Type 0} (m : Parts A) (s : Summary) (e : Event A) → Unbroken m s e → ill_formed m e ≡ []
 well-formed m s e u = well_formed m e u.number u.class u.object u.operation u.same
 
--- a class that allows lacks nothing
+-- a class that allows an event lacks nothing for it
 lacks_nothing : {X : Type 0} (test : X → Bool) (o : Option X) → option_map_or test o false ≡ true → option_map_or (λ x. not (test x)) o false ≡ false
 lacks_nothing test None e = cc
 lacks_nothing test (Some x) e = ap not e
@@ -113,7 +113,7 @@ and_false : (b : Bool) (n : ℕ) → when (b && false) n ≡ []
 and_false true n = refl
 and_false false n = refl
 
--- the return that is due is no wrong one
+-- the return that is due is not wrong
 due_return : {A : Type 0} (m : Parts A) (h : List (Kept A)) (object n : ℕ) (op : Op) → when (by_places.is_well_formed m object op && not (is_due (by_places.return_due m h object op) (by_places.return_due m h object op))) n ≡ []
 due_return m h object n op = of (kind_at m object)
   where
@@ -138,7 +138,7 @@ both_true false b e = cc
 no_class_lacks : {A : Type 0} (m : Parts A) (h : List (Kept A)) (kind : EventKind) (t : ℕ) → has_begun h t ≡ false → lacks_kind m h kind t ≡ false
 no_class_lacks m h kind t new = ap (λ n. option_map_or (λ k. not (can_do kind k)) (option_and_then (class_at m) n) false) (no_class h t new)
 
--- two that are not one
+-- two different transactions
 two : (t u : ℕ) → (if t == u then Some t else None) ≡ None → u ≡ t → ⊥
 two t u none same = of (t == u) (eq-eqb t u (sym same)) none
   where
@@ -164,14 +164,14 @@ module _ {A : Type 0} (m : Parts A) (h : List (Kept A)) (shows : ShowsPlaces m h
   on_places : (t : ℕ) → s.status t ≡ InProgress → status_at h t ≡ InProgress
   on_places t e = sym (shows.status t) ∙ e
 
-  -- in progress by places, as the axioms test it
+  -- in progress by places, in the form that the axioms test
   on_places_test : (t : ℕ) → s.status t ≡ InProgress → is_in_progress h t ≡ true
   on_places_test t e = in_progress-status h t ∙ ap is_under_way (on_places t e)
 
   new_on_places : (t : ℕ) → s.status t ≡ NotBegun → status_at h t ≡ NotBegun
   new_on_places t e = sym (shows.status t) ∙ e
 
-  -- one that may form edges, or has not begun, lacks nothing for it
+  -- a transaction that may form edges, or has not begun, lacks nothing for it
   forms_some : (t : ℕ) → forms_none m s t ≡ false → lacks_kind m h form_kind t ≡ false
   forms_some t may = of_status (s.status t) refl may
     where
@@ -201,14 +201,14 @@ module _ {A : Type 0} (m : Parts A) (h : List (Kept A)) (shows : ShowsPlaces m h
           let same : (t : ℕ) → by_status.has_ended (s.status t) ≡ has_ended h t = λ t. ap by_status.has_ended (shows.status t) ∙ ended-places h t in
           ap option_to_list (sym (λ n. smallest (filter (λ t. same t n) (j.0 ∷ i.0 ∷ []))) ∙ e)
 
-  -- the class of t wants the whole by places where it does by the table
+  -- t's class requires all operations by places if it does by the table
   wants-places : (t : ℕ) → has_class (λ k. is_whole k.extent) m h t ≡ wants_whole m s t
   wants-places t = has_class-places (λ k. is_whole k.extent) m h s shows t
 
   may_do : (kind : EventKind) (t : TxnId) → txn_may m s t.0 kind ≡ true → when (lacks_kind m h kind t.0 || false) t.0 ≡ []
   may_do kind t may = λ i. when (has_no_lack m s h kind t.0 (shows.class t.0) may i || false) t.0
 
-  -- one that commits has an heir in progress, where its class wants one
+  -- a transaction that commits has an heir in progress, if its class requires one
   heir-ready : (t : TxnId) → HasParent m h t.0 → option_and_then (λ p. fails s by_status.is_in_progress p.0) (heir_of m s t.0) ≡ None → without_heir m h (Commit t) ≡ []
   heir-ready t parent none =
       of_class (has_class (λ k. has_heir k.at_commit) m h t.0) (parent_of h t.0) parent
@@ -219,7 +219,7 @@ module _ {A : Type 0} (m : Parts A) (h : List (Kept A)) (shows : ShowsPlaces m h
       of_class true None has e = absurd (true≢false (sym (has refl)))
       of_class true (Some p) has e = ap (λ b. when (not b) p.0) (on_places_test p.0 (in_progress s NoHeir p.0 (ap (broken_by NoHeir) e)))
 
-  -- an operation of one whose class refuses conflicts with none
+  -- an operation under a class that refuses conflicts with none
   refused-calm : (t : TxnId) (ob : ObjId) (op : Op) → first_conflict {A = A} m s (Operate t ob op) ≡ None → in_conflict m h (Operate t ob op) ≡ []
   refused-calm t ob op none =
       ap (λ b. if b then map (λ o. o.number) (by_places.conflicting m h t.0 ob.0 op) else []) (has_class-places (λ k. refuses k.policy) m h s shows t.0)
@@ -308,14 +308,14 @@ module _ {A : Type 0} (m : Parts A) (h : List (Kept A)) (shows : ShowsPlaces m h
       (well-formed m s (Permit t v ob) u)
       (may_do permit_kind t (not_broken (txn_may m s t.0 permit_kind) NotInModel u.model))
 
-  -- one that is new has not begun by places
+  -- a transaction that is new has not begun by places
   unborn : (t : ℕ) → s.status t ≡ NotBegun → has_begun h t ≡ false
   unborn t new = has_begun-status h t (ap is_ended_status (new_on_places t new)) ∙ ap is_under_way (new_on_places t new)
 
   born : (t : ℕ) → s.status t ≡ InProgress → has_begun h t ≡ true
   born t on = has_begun-status h t (ap is_ended_status (on_places t on)) ∙ ap is_under_way (on_places t on)
 
-  -- who is named by a permit that breaks no rule has begun, and has not ended
+  -- both transactions of a permit that breaks no rule have begun and not ended
   permit-begun : (e : Event A) → Unbroken m s e → (w v object : ℕ) → permits w v object e ≡ true → (has_begun h w ≡ true) × (has_begun h v ≡ true)
   unfolding not_in_progress partner_not_in_progress
   permit-begun (Permit t u ob) unbroken_by w v object is =
@@ -438,13 +438,13 @@ module _ {A : Type 0} (m : Parts A) (h : List (Kept A)) (shows : ShowsPlaces m h
         permits = permits-on (Operate t ob op) ret u;
       }
 
-  -- what becomes of operations at a commit
+  -- operations at a commit
   settled-operations : (t : TxnId) (ret : Option Ret) (o : Option TxnId) → heir m h t.0 ≡ o → (settled s t o).operations ≡ held_ops m (h ++ (record { event = Commit t; ret = ret }) ∷ [])
   unfolding inherited fated
   settled-operations t ret None none = ap (ended t.0 Committed) shows.operations ∙ sym (operations-commit m h ret t none)
   settled-operations t ret (Some v) is = ap (transferred t.0 v) shows.operations ∙ sym (operations-inherited m h ret t v is)
 
-  -- all else that a commit leaves
+  -- the rest of the state at a commit
   shows-settled : (t : TxnId) (ret : Option Ret) (o : Option TxnId) → heir m h t.0 ≡ o → Unbroken m s (Commit t) → ShowsPlaces m (h ++ (record { event = Commit t; ret = ret }) ∷ []) (counted (settled (terminated s t has_committed) t o))
   unfolding terminated inherited fated counted
   shows-settled t ret None none u =
@@ -510,7 +510,7 @@ module _ {A : Type 0} (m : Parts A) (h : List (Kept A)) (shows : ShowsPlaces m h
   shows_on (Abort t) ret u = shows-abort t ret u
   shows_on (Permit t v ob) ret u = shows-permit t v ob ret u
 
-  -- a class that may start by a begin or a split commits to no parent
+  -- a class that may start by a begin or a split does not commit to parents
   no-heir-class : (class : ℕ) (kind : EventKind) → lowest_fault m ≡ None → class_may m class kind ≡ true → (kind ≡ begin_kind) ⊎ (kind ≡ split_kind) → option_map_or (λ k. has_heir k.at_commit) (class_at m class) false ≡ false
   no-heir-class class kind faultless may which = of_class (class_at m class) (rooted-class m faultless class) may which
     where
@@ -519,7 +519,7 @@ module _ {A : Type 0} (m : Parts A) (h : List (Kept A)) (shows : ShowsPlaces m h
       of_class (Some k) rooted may (inl is) = no_heir_where (has_heir k.at_commit) k.starts.begin k.starts.split rooted (inl (ap (λ x. can_start x k) (sym is) ∙ may))
       of_class (Some k) rooted may (inr is) = no_heir_where (has_heir k.at_commit) k.starts.begin k.starts.split rooted (inr (ap (λ x. can_start x k) (sym is) ∙ may))
 
-  -- one that is started with a class that commits to its parent has a parent
+  -- a transaction that is started with a class that commits to parents has a parent
   started-parent : lowest_fault m ≡ None → (e : Event A) → Unbroken m s e → (t : ℕ) → starts t e ≡ true → option_map_or (λ k. has_heir k.at_commit) (class_in m e) false ≡ true → is_some (spawner h e) ≡ true
   unfolding not_in_model not_in_progress
   started-parent faultless (Begin v class) u t is has =
@@ -541,7 +541,7 @@ module _ {A : Type 0} (m : Parts A) (h : List (Kept A)) (shows : ShowsPlaces m h
       of_start false true is has = started-parent faultless e u t is has
       of_start false false is has = absurd (true≢false (sym has))
 
-  -- a parent is another
+  -- a parent is a different transaction
   other-parent : (t : ℕ) (p : TxnId) → s.status t ≡ InProgress → parent_of h t ≡ Some p → p.0 ≡ t → ⊥
   other-parent t p on is same =
       let at = started_within h t (born t on) in
@@ -550,11 +550,11 @@ module _ {A : Type 0} (m : Parts A) (h : List (Kept A)) (shows : ShowsPlaces m h
       let low = earlier.2 in
       omega (arith, here, low)
 
-  -- one that is in progress still is where another ends
+  -- a transaction in progress is still in progress when another ends
   still_on : (t : ℕ) (x : Status) (u : ℕ) → (u ≡ t → ⊥) → s.status u ≡ InProgress → by_status.is_in_progress (by_status.with_status s.status t x u) ≡ true
   still_on t x u ne on = (λ i. by_status.is_in_progress (if ne_eqb u t ne i then x else on i))
 
-  -- whoever is left to is a parent
+  -- every heir is a parent
   heir-parent : (t p : TxnId) → heir_of m s t.0 ≡ Some p → parent_of h t.0 ≡ Some p
   heir-parent t p is = sym (shows.parent t.0) ∙ of_class (families.has_class (λ k. has_heir k.at_commit) m s t.0) (s.parent t.0) is
     where
@@ -562,7 +562,7 @@ module _ {A : Type 0} (m : Parts A) (h : List (Kept A)) (shows : ShowsPlaces m h
       of_class true o e = e
       of_class false o e = cc
 
-  -- who holds an operation in progress still is in progress
+  -- holders of operations in progress are still in progress
   well-settled : (t : TxnId) (o : Option TxnId) → s.status t.0 ≡ InProgress → ((p : TxnId) → o ≡ Some p → parent_of h t.0 ≡ Some p) → option_and_then (λ p. fails s by_status.is_in_progress p.0) o ≡ None → AreHeldWell s
       → AreHeldWell (counted (settled (terminated s t has_committed) t o))
   unfolding terminated inherited fated counted
@@ -593,7 +593,7 @@ module _ {A : Type 0} (m : Parts A) (h : List (Kept A)) (shows : ShowsPlaces m h
   holders-push : (e : Event A) (ret : Option Ret) → Unbroken m s e → no_heir m s e ≡ None → AreHeldWell s → AreHeldWell (summary_of m (h ++ (record { event = e; ret = ret }) ∷ []))
   holders-push e ret u ready well = ap (λ (x : Summary). list_all (is_held_well x.status) x.operations) (summary_more m h (record { event = e; ret = ret })) ∙ well-after e u ready well
 
--- what ends was in progress
+-- a transaction that ends was in progress
 ends-in-progress : {A : Type 0} (m : Parts A) (h : List (Kept A)) (shows : ShowsPlaces m h (summary_of m h)) (e : Event A) → Unbroken m (summary_of m h) e → EndsInProgress h e
 unfolding not_in_progress
 ends-in-progress m h shows (Begin t class) u = tt
@@ -613,7 +613,7 @@ orderly-push m h k shows orderly u = record {
   edges = apart-push m h k orderly.edges u.same;
 }
 
--- the summary of the history with an event that breaks none of the earlier rules is that by places
+-- after an event that breaks none of the earlier rules, the summary is that by places
 pub shows-push : {A : Type 0} (m : Parts A) (h : List (Kept A)) (k : Kept A) → ShowsPlaces m h (summary_of m h) → ArePermitsBegun h → Unbroken m (summary_of m h) k.event → ShowsPlaces m (h ++ k ∷ []) (summary_of m (h ++ k ∷ []))
 shows-push m h k shows begun u =
     subst (λ (x : Summary). ShowsPlaces m (h ++ k ∷ []) x) (sym (summary_more m h k)) (shows_on m h shows begun k.event k.ret u)
@@ -657,7 +657,7 @@ follows-of m h checked well shows meets orderly parents begun =
       clashes_exact = λ e none. (exact-push m h (kept_as (record { model = m; kept = h }) e) checked well shows meets orderly none).clashes;
     }
 
--- an event that breaks no rule goes on as the places do
+-- after an event that breaks no rule, table and places still agree
 pub follows-push : {A : Type 0} (m : Parts A) (h : List (Kept A)) (e : Event A) → lowest_fault m ≡ None → FollowsPlaces (record { model = m; kept = h }) → lowest_broken m (summary_of m h) e ≡ None
     → FollowsPlaces (record { model = m; kept = h ++ kept_as (record { model = m; kept = h }) e ∷ [] })
 follows-push m h e faultless follows none =
@@ -671,7 +671,7 @@ follows-push m h e faultless follows none =
     (parents-push m h follows.shows follows.permits faultless e k.ret u follows.parents)
     (permits-begun m h follows.shows follows.permits e k.ret u)
 
--- a history of nothing follows the places
+-- table and places agree on the empty history
 pub follows-fresh : {A : Type 0} (m : Parts A) → FollowsPlaces (record { model = m; kept = [] })
 unfolding summary_of
 follows-fresh {A} m =

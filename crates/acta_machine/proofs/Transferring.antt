@@ -1,4 +1,4 @@
--- What is handed over: the rules on it and the axioms on it say the same.
+-- The rules on transferred operations agree with the axioms on them.
 use Rattle.std.proofs.Common.{◌≡◌, ℕ, Bool, true, false, ◌&&◌, ◌||◌, not, ◌==◌, List, [], ◌∷◌, filter, find, Option, Some, None, is_none, refl, sym, ap, ◌∙◌}
 use Rattle.std.specs.Prelude.{if◌then◌else◌}
 use Rattle.std.specs.List.{AllByRecursion}
@@ -21,7 +21,7 @@ use Rattle.acta_machine.specs.Rules.{is_of_another, not_held, unknown_in, left_o
 use Rattle.acta_machine.proofs.Broken.{by_none}
 use Rattle.acta_machine.proofs.Unbroken.{Unbroken}
 
--- where there is no smallest there is none
+-- if there is no smallest number, there is no number
 none-smallest : (ns : List ℕ) → smallest ns ≡ None → ns ≡ []
 none-smallest [] e = refl
 none-smallest (n ∷ ns) e = cc
@@ -37,7 +37,7 @@ not_false : (b : Bool) → not b ≡ false → b ≡ true
 not_false true e = refl
 not_false false e = cc
 
--- an operation that is there, and is not of another, is held
+-- an operation that exists and is not another's is held
 held-there : (t : ℕ) (i : Option HeldOp) → option_map_or (λ x. not (is_held t x)) i false ≡ false → is_none i ≡ false → option_map_or (is_held t) i false ≡ true
 held-there t None e there = absurd (true≢false there)
 held-there t (Some i) e there = not_false (is_held t i) e
@@ -49,17 +49,17 @@ all-held s t (n ∷ ns) others none =
     let there = none-here (λ k. is_none (operation_at s.operations k)) n ns none in
     (held-there t (operation_at s.operations n) here.0 there.0, all-held s t ns here.1 there.1)
 
--- where nothing that is named is of another or unknown, t holds all that is named
+-- if no named operation is another's or unknown, t holds all of them
 pub named-held : (s : Summary) (ops : List OpNo) (t : ℕ) → not_held s ops t ≡ None → unknown_in s ops ≡ None → AllByRecursion (λ n. holds s.operations t n ≡ true) (numbers_of ops)
 named-held s ops t others none =
     all-held s t (numbers_of ops) (none-smallest _ others) (none-smallest _ none)
 
--- so t holds all that is named, as the table asks
+-- so t holds all named operations, as the table requires
 pub named-all : (items : List HeldOp) (t : ℕ) (ops : List OpNo) → AllByRecursion (λ n. holds items t n ≡ true) (numbers_of ops) → are_held t ops items ≡ true
 named-all items t [] all = refl
 named-all items t (o ∷ ops) all = λ i. all.0 i && named-all items t ops all.1 i
 
--- an operation that is named is one of those
+-- an operation that is named is in the list
 pub held-named : (items : List HeldOp) (t : ℕ) (ops : List OpNo) → AllByRecursion (λ n. holds items t n ≡ true) (numbers_of ops) → (n : ℕ) → is_named ops n ≡ true → holds items t n ≡ true
 held-named items t [] all n named = absurd (true≢false (sym named))
 held-named items t (o ∷ ops) all n named = of (o.0 == n) refl named (held-named items t ops all.1 n)
@@ -68,13 +68,13 @@ held-named items t (o ∷ ops) all n named = of (o.0 == n) refl named (held-name
     of true is e later = ap (holds items t) (sym (eqb-true o.0 n is)) ∙ all.0
     of false is e later = later e
 
--- where t holds all that is named, nothing that is named is not among what it holds
+-- if t holds all named operations, each is in its access set
 pub none-unheld : (items : List HeldOp) (t : ℕ) (ns : List ℕ) → AllByRecursion (λ n. holds items t n ≡ true) ns → filter (λ n. not (has_number (numbers_where (is_held t) items) n)) ns ≡ []
 none-unheld items t [] all = refl
 none-unheld items t (n ∷ ns) all =
     λ i. if not ((has-held items t n ∙ all.0) i) then n ∷ filter (λ k. not (has_number (numbers_where (is_held t) items) k)) ns else none-unheld items t ns all.1 i
 
--- where no first is found there is none
+-- if no first item is found, there is none
 none-found : (test : ℕ → Bool) (ns : List ℕ) → find test ns ≡ None → filter test ns ≡ []
 none-found test [] e = refl
 none-found test (n ∷ ns) e = of (test n) e (none-found test ns)
@@ -83,7 +83,7 @@ none-found test (n ∷ ns) e = of (test n) e (none-found test ns)
     of true e later = cc
     of false e later = later e
 
--- where nothing that has to be handed over is left out by the table, nothing is by places
+-- if the table finds no operation left out, there is none by places
 pub none-left : (s : Summary) (ops : List OpNo) (t : ℕ) (b : Bool) → (if b then left_out s ops t else None) ≡ None → (if b then filter (λ n. not (is_named ops n)) (numbers_where (is_held t) s.operations) else []) ≡ []
 none-left s ops t true none = none-found (λ n. not (is_named ops n)) (numbers_where (is_held t) s.operations) none
 none-left s ops t false none = refl

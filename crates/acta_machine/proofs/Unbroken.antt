@@ -1,4 +1,4 @@
--- An event that breaks none of the rules before those on dependencies, or none at all.
+-- Events that break no rule before those on dependencies, and events that break no rule.
 use Rattle.std.proofs.Common.{◌≡◌, ◌<◌, ◌≤◌, false, List, [], ◌∷◌, length, Option, Some, None, is_some, refl, sym, ap, ◌∙◌, arith}
 use Rattle.std.specs.Prelude.{nat_lt}
 use Rattle.std.specs.Option.{option_or}
@@ -94,8 +94,8 @@ unbroken m s e none =
 both-none : {A : Type 0} (m : Parts A) (s : Summary) (e : Event A) → lowest_broken m s e ≡ None → (option_or (earlier_broken m s e) (dependency s e) ≡ None) × (no_heir m s e ≡ None)
 both-none m s e none = or_none (option_or (earlier_broken m s e) (dependency s e)) (no_heir m s e) none
 
--- an event that breaks no rule breaks none of the earlier ones, none of those on dependencies, and has an
--- heir where it wants one
+-- an event that breaks no rule breaks none of the earlier ones and none on dependencies, and has an heir if it needs
+-- one
 pub none-earlier : {A : Type 0} (m : Parts A) (s : Summary) (e : Event A) → lowest_broken m s e ≡ None → earlier_broken m s e ≡ None
 none-earlier m s e none = (or_none (earlier_broken m s e) (dependency s e) (both-none m s e none).0).0
 
@@ -105,13 +105,13 @@ none-dependency m s e none = (or_none (earlier_broken m s e) (dependency s e) (b
 pub none-heirless : {A : Type 0} (m : Parts A) (s : Summary) (e : Event A) → lowest_broken m s e ≡ None → no_heir m s e ≡ None
 none-heirless m s e none = (both-none m s e none).1
 
--- what is asked of an event when its change is made
+-- the conditions under which an event's change is made
 pub record Admissible {A : Type 0} (s : Summary) (e : Event A) : Type 0 where
   pub progress : not_in_progress s e ≡ None
   pub begun : already_begun s e ≡ None
   pub allowed : dependency s e ≡ None
 
--- the edges that an event forms change no rule that looks at statuses
+-- the edges that an event forms affect no rule on statuses
 
 is_nothing : (r : Option Refusal) → is_some r ≡ false → r ≡ None
 is_nothing None e = refl
@@ -142,7 +142,7 @@ linked-begun : {A : Type 0} (m : Parts A) (s : Summary) (e : Event A) → alread
 unfolding linked already_begun
 linked-begun m s e = refl
 
--- so an event that breaks no rule is still admissible when its edges are formed
+-- so an event that breaks no rule is still admissible after its edges are formed
 pub still-admissible : {A : Type 0} (m : Parts A) (s later : Summary) (e : Event A) (due : List Edge) → lowest_fault m ≡ None → lowest_broken m s e ≡ None → due ≡ edges_due m s e → later ≡ linked s due → Admissible later e
 still-admissible m s later e due faultless none is_due forms =
     let here : later ≡ linked s (edges_due m s e) = forms ∙ (λ i. linked s (is_due i)) in

@@ -38,7 +38,7 @@ return-places {A} m h items object op same = of (kind_at m object)
     of None = refl
     of (Some kind) = ap (λ value. Some (returned value op)) (value-found m h items object kind same)
 
--- where no item passes, none of a part of them does
+-- if no item passes, none of a sublist does
 none_passes : {X Y : Type 0} (test : Y → Bool) (g : X → Y) (keeps passes : X → Bool) → ((x : X) → keeps x ≡ true → passes x ≡ true → test (g x) ≡ true) → (n : ℕ) (xs : List X) → position_from test n (map g xs) ≡ None → filter passes (filter keeps xs) ≡ []
 none_passes test g keeps passes implied n [] e = refl
 none_passes test g keeps passes implied n (x ∷ xs) e = of (none_passes test g keeps passes implied (n + 1) xs) (test (g x)) refl e
@@ -73,7 +73,7 @@ others-places m h shows t o =
     apart (is_open s.fate && not (s.holder == t)) (is_among (exempt m (summary_of m h) t) (record { 0 = s.holder })) ((summary_of m h).permits s.holder t o.object)
     ∙ ap (λ b. is_open s.fate && not (s.holder == t) && not b) (sym (exempt-places m h shows t o.object (record { 0 = s.holder })))
 
--- where nothing in the table stands against an operation, nothing conflicts by places
+-- if no operation conflicts by the table, none conflicts by places
 pub conflicting-none : {A : Type 0} (m : Parts A) (h : List (Kept A)) (t : ℕ) (ob : ObjId) (op : Op) → ShowsPlaces m h (summary_of m h) → first_number (stands_against m (summary_of m h) t ob op) (summary_of m h).operations ≡ None → conflicting m h t ob.0 op ≡ []
 conflicting-none m h t ob op shows none =
     none_passes (stands_against m (summary_of m h) t ob op) (λ o. held_op o (standing m h o)) (λ o. by_places.is_of_others m h t o.object (standing m h o)) (λ o. (o.object == ob.0) && do_conflict m ob.0 o.op op)

@@ -1,4 +1,4 @@
--- What an admitted event changes.
+-- The effect of an admitted event on the summary.
 use Rattle.std.specs.Prelude.{List, [], ◌∷◌, Option, Some, None}
 use Rattle.std.specs.Option.{option_map_or}
 use Rattle.acta_table.specs.declared.event.TxnId.{TxnId}
@@ -16,11 +16,11 @@ use Rattle.acta_machine.specs.Summary.{Summary, nothing_yet, stood, terminated, 
 use Rattle.acta_machine.specs.Families.{heir_of}
 use Rattle.acta_machine.specs.Conflicts.{conflict_edges}
 
--- t is in progress, with this class and this parent
+-- t begins, with this class and this parent
 abbrev pub begun : Summary → TxnId → ClassId → Option TxnId → Summary
 begun s t class parent = entered (stood s t InProgress) t (Some class) parent
 
--- what t holds in progress is held by the heir, or committed where there is none
+-- t's operations in progress are transferred to the heir, or committed if there is none
 abbrev pub settled : Summary → TxnId → Option TxnId → Summary
 settled s t None = fated s t Committed
 settled s t (Some heir) = inherited s t heir
@@ -35,7 +35,7 @@ edges_due m s (Form kind j i) = (record { kind = kind; j = j; i = i }) ∷ []
 edges_due m s (Operate t ob op) = conflict_edges m s t ob op
 edges_due m s _ = []
 
--- what the event does to transactions, permits and operations
+-- the event's effect on transactions, permits and operations
 abbrev pub changed : {A : Type 0} → Parts A → Summary → Event A → Summary
 changed m s (Begin t class) = begun s t class None
 changed m s (Spawn t c class) = begun s c class (Some t)
@@ -48,15 +48,15 @@ changed m s (Commit t) = settled (terminated s t has_committed) t (heir_of m s t
 changed m s (Abort t) = fated (terminated s t has_aborted) t Aborted
 changed m s (Permit t u ob) = permit_given s t u ob
 
--- the edges, the change, and one more event
+-- the whole effect: new edges, the change, and one more event
 abbrev pub effect : {A : Type 0} → Parts A → Summary → Event A → Summary
 effect m s event = counted (changed m (linked s (edges_due m s event)) event)
 
--- after a history, from a summary
+-- the summary after a history, starting from a summary
 abbrev pub summary_from : {A : Type 0} → Parts A → Summary → List (Kept A) → Summary
 summary_from m s [] = s
 summary_from m s (k ∷ ks) = summary_from m (effect m s k.event) ks
 
--- after a history, from nothing
+-- the summary after a history
 unfoldable pub summary_of : {A : Type 0} → Parts A → List (Kept A) → Summary
 summary_of m history = summary_from m nothing_yet history

@@ -1,4 +1,4 @@
--- Which operations stand against another, who holds them, and the edges that come of it.
+-- The operations that conflict with another, their holders, and the edges formed on these.
 use Rattle.std.specs.Prelude.{ℕ, Bool, ◌&&◌, ◌==◌, List, [], map, filter}
 use Rattle.std.specs.Option.{option_map_or}
 use Rattle.acta_table.specs.declared.dep.Edge.{Edge}
@@ -19,12 +19,12 @@ abbrev pub stands_against : {A : Type 0} → Parts A → Summary → ℕ → Obj
 stands_against m s t ob op i =
     is_of_others t (exempt m s t) s.permits i && (i.ob.0 == ob.0) && conflict_on m ob.0 i.op op
 
--- who holds the operations that stand against this one, ascending, each once
+-- the holders of the operations that conflict with this one, ascending, each once
 abbrev pub conflicting_holders : {A : Type 0} → Parts A → Summary → ℕ → ObjId → Op → List ℕ
 conflicting_holders m s t ob op =
     ascending (map (λ i. i.holder.0) (filter (stands_against m s t ob op) s.operations))
 
--- the edges of t on each of them, by the policy of t's class
+-- the edges of t on each conflicting holder, by the policy of t's class
 abbrev pub conflict_edges : {A : Type 0} → Parts A → Summary → TxnId → ObjId → Op → List Edge
 conflict_edges m s t ob op =
     option_map_or (λ k. edges_upon k.policy t (conflicting_holders m s t.0 ob op)) (class_of m s t.0) []

@@ -1,4 +1,4 @@
--- That the written table and the places of the history say the same.
+-- The written table and the definitions by places agree.
 use Rattle.std.specs.Prelude.{◌≡◌, ℕ, Bool, true, ◌||◌, not, List, Option, option_map, is_some}
 use Rattle.std.specs.List.{list_all}
 use Rattle.acta_table.specs.declared.event.Event.{Event}
@@ -21,7 +21,7 @@ use Rattle.acta_machine.specs.Changes.{summary_of}
 use Rattle.acta_machine.specs.Exactness.{RefusesIllegal, RefusesByEdge, RefusesByDebts}
 use Rattle.acta_machine.specs.Table.{State}
 
--- the statuses, classes, parents, holders, fates, edges and permits of a summary are those by places
+-- the statuses, classes, parents, operations, edges and permits of the summary are those by places
 pub record ShowsPlaces {A : Type 0} (m : Parts A) (h : List (Kept A)) (s : Summary) : Type 0 where
   pub status : (t : ℕ) → s.status t ≡ status_at h t
   pub class : (t : ℕ) → option_map (λ c. c.0) (s.class t) ≡ class_number h t
@@ -30,27 +30,27 @@ pub record ShowsPlaces {A : Type 0} (m : Parts A) (h : List (Kept A)) (s : Summa
   pub edges : s.edges ≡ edges m h
   pub permits : (t u object : ℕ) → s.permits t u object ≡ is_permitted h t u object
 
--- one whose class commits to its parent has a parent
+-- a transaction whose class commits to parents has a parent
 abbrev pub HasParent : {A : Type 0} → Parts A → List (Kept A) → ℕ → Type 0
 HasParent m h t =
     has_class (λ k. has_heir k.at_commit) m h t ≡ true → is_some (parent_of h t) ≡ true
 
--- who permits another something at some place has begun, and so has the other
+-- both transactions of every permit have begun
 abbrev pub ArePermitsBegun : {A : Type 0} → List (Kept A) → Type 0
 ArePermitsBegun h = (t u object : ℕ) → has_permitted h t u object ≡ true → (has_begun h t ≡ true) × (has_begun h u ≡ true)
 
--- whether the holder of the operation is in progress, or the operation is not
+-- whether the operation has ended, or its holder is in progress
 abbrev pub is_held_well : (ℕ → Status) → HeldOp → Bool
 is_held_well status i = not (is_open i.fate) || is_in_progress (status i.holder.0)
 
--- who holds an operation in progress is in progress
+-- the holder of every operation in progress is in progress
 abbrev pub AreHeldWell : Summary → Type 0
 AreHeldWell s = list_all (is_held_well s.status) s.operations ≡ true
 
--- the summary of the history is that by places; the history meets the axioms, and is orderly; each that
--- commits to its parent has one; who holds an operation in progress is in progress; who permits something, or is
--- permitted it, has begun; and of each event that may come next the rules on dependencies refuse exactly what would
--- be illegal, as a whole, edge by edge, and by debts that would meet
+-- the summary agrees with the definitions by places; the history satisfies the axioms and is orderly; transactions that
+-- commit to parents have one; holders of operations in progress are in progress; both transactions of a permit have
+-- begun; and for every next event the rules on dependencies refuse exactly what would be illegal: as a whole, edge by
+-- edge, and for clashing debts
 pub record FollowsPlaces {A : Type 0} (state : State A) : Type 0 where
   pub shows : ShowsPlaces state.model state.kept (summary_of state.model state.kept)
   pub meets : MeetsAxioms state.model state.kept

@@ -1,4 +1,4 @@
--- Why an event is refused: the rule that it breaks with the number that the rule names, and what else is so.
+-- Why an event is refused: the rule that it breaks with the number that the rule names, and further facts.
 use Rattle.std.specs.Prelude.{◌≡◌, ⊤, ◌⊎◌, ℕ, true, false, length, Some, None}
 use Rattle.std.specs.List.{list_any}
 use Rattle.acta_table.specs.declared.answer.Refusal.{Refusal}
@@ -25,7 +25,7 @@ use Rattle.acta_machine.specs.declared.reason.NumberedOp.{NumberedOp}
 use Rattle.acta_machine.specs.declared.reason.Reason.{Reason}
 use Rattle.acta_machine.specs.declared.reason.Reason.TheVariants.{Full, Form, NotInProgress, AlreadyBegun, NotInModel, PartnerNotInProgress, NotResponsible, PartialDelegation, BadSet, Conflict, FormTooLate, EdgesFull, Blocked, Clash, NoHeir}
 
--- the rule that is broken, with the number that the rule names
+-- the broken rule, with the number that the rule names
 abbrev pub refusal_of : Reason → Refusal
 refusal_of Full = record { rule = rule.Full; by = None }
 refusal_of (Form fault) = refusal_for fault
@@ -43,7 +43,7 @@ refusal_of (Blocked blocking_edge) = refusal_by (by_edge blocking_edge)
 refusal_of (Clash clash) = refusal_by (by_clash clash)
 refusal_of (NoHeir p status) = record { rule = rule.NoHeir; by = Some p.0 }
 
--- the statuses, with that of the one that the event starts or ends as it is then
+-- the statuses once the event has started or ended its transaction
 abbrev pub statuses_after : {A : Type 0} → (ℕ → Status) → Event A → ℕ → Status
 statuses_after status (event.Begin t class) = with_status status t.0 InProgress
 statuses_after status (event.Spawn t c class) = with_status status c.0 InProgress
@@ -53,12 +53,12 @@ statuses_after status (event.Commit t) = with_status status t.0 Committed
 statuses_after status (event.Abort t) = with_status status t.0 Aborted
 statuses_after status _ = status
 
--- the event asks t's class whether it may: t does it, or has begun, and an edge of it or on it is to be formed
+-- the event depends on t's class: t does it, or it forms an edge of t or on t, and t has begun
 abbrev pub Asks : {A : Type 0} → Summary → Event A → TxnId → Type 0
 Asks s (event.Form kind j i) t = ((t ≡ j) ⊎ (t ≡ i)) × (has_begun (s.status t.0) ≡ true)
 Asks s e t = acting e ≡ Some t.0
 
--- the classes lack this for the event
+-- the classes lack this permission for the event
 abbrev pub IsLack : {A : Type 0} → Parts A → Summary → Event A → Lack → Type 0
 IsLack m s e (Start class kind) =
     (class_named e ≡ Some class.0) × (kind ≡ kind_of e) × (class_may m class.0 kind ≡ false)
@@ -66,11 +66,11 @@ IsLack m s e (Doing t class kind) =
     Asks s e t × (class ≡ s.class t.0) × (kind ≡ kind_of e) × (txn_may m s t.0 kind ≡ false)
 IsLack m s e Forming = list_any (can_do form_kind) m.classes ≡ false
 
--- the operation of this number is this one, with its holder and its fate
+-- the operation with this number is this one, with its holder and its fate
 abbrev pub IsOperation : Summary → NumberedOp → Type 0
 IsOperation s op = operation_at s.operations op.number.0 ≡ Some op.held
 
--- what it says beside the rule and its number is so
+-- the further facts of the reason are true
 abbrev pub IsSo : {A : Type 0} → Parts A → Summary → Event A → Reason → Type 0
 IsSo m s e Full = ⊤
 IsSo m s e (Form fault) = IsNamed e fault

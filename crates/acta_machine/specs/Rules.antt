@@ -1,4 +1,4 @@
--- The rules: each answers nothing, or that it is broken, with the number that it names.
+-- The rules: each yields `None`, or a refusal with the number that the rule names.
 use Rattle.std.specs.Prelude.{ℕ, Bool, false, not, ◌&&◌, nat_lt, nat_le, List, [], ◌∷◌, filter, find, length, if◌then◌else◌, Option, Some, None, is_none, option_and_then}
 use Rattle.std.specs.List.{list_any}
 use Rattle.std.specs.Option.{option_map_or}
@@ -31,7 +31,7 @@ use Rattle.acta_machine.specs.Changes.{edges_due}
 use Rattle.acta_machine.specs.Families.{has_class, heir_of}
 use Rattle.acta_machine.specs.Conflicts.{stands_against}
 
--- as many events are kept as there may be
+-- the history has as many events as it may
 unfoldable pub full : Summary → Option Refusal
 full s = broken_if (nat_le MOST_EVENTS s.kept) Full
 
@@ -47,11 +47,11 @@ not_in_progress s e = broken_by NotInProgress (option_and_then (fails s is_in_pr
 unfoldable pub already_begun : {A : Type 0} → Summary → Event A → Option Refusal
 already_begun s e = broken_by AlreadyBegun (option_and_then (fails s is_new) (started e))
 
--- whether the class of this number may start so
+-- whether the class with this number may start by such an event
 abbrev pub class_may : {A : Type 0} → Parts A → ℕ → EventKind → Bool
 class_may m class kind = option_map_or (can_start kind) (class_at m class) false
 
--- whether t's class may do so
+-- whether t's class may do such an event
 abbrev pub txn_may : {A : Type 0} → Parts A → Summary → ℕ → EventKind → Bool
 txn_may m s t kind = has_class (can_do kind) m s t
 
@@ -82,15 +82,15 @@ unfoldable pub partner_not_in_progress : {A : Type 0} → Summary → Event A �
 partner_not_in_progress s e =
     broken_by PartnerNotInProgress (option_and_then (fails s is_in_progress) (partner e))
 
--- whether operation n is there, and t does not hold it in progress
+-- whether operation n exists and t does not hold it in progress
 abbrev pub is_of_another : Summary → ℕ → ℕ → Bool
 is_of_another s t n = option_map_or (λ i. not (is_held t i)) (operation_at s.operations n) false
 
--- the smallest operation named that is there, and that t does not hold in progress
+-- the smallest operation named that exists and that t does not hold in progress
 abbrev pub not_held : Summary → List OpNo → ℕ → Option ℕ
 not_held s ops t = smallest (filter (is_of_another s t) (numbers_of ops))
 
--- an operation named is not held in progress by the acting transaction
+-- the acting transaction does not hold a named operation in progress
 unfoldable pub not_responsible : {A : Type 0} → Summary → Event A → Option Refusal
 not_responsible s e =
     broken_by NotResponsible (option_and_then (not_held s (operations_named e)) (acting e))
@@ -99,49 +99,49 @@ not_responsible s e =
 abbrev pub left_out : Summary → List OpNo → ℕ → Option ℕ
 left_out s ops t = find (λ n. not (is_named ops n)) (numbers_where (is_held t) s.operations)
 
--- whether t's class wants all that t holds handed over
+-- whether t's class requires it to transfer all that it holds
 abbrev pub wants_whole : {A : Type 0} → Parts A → Summary → ℕ → Bool
 wants_whole m s t = has_class (λ class. is_whole class.extent) m s t
 
--- the same, where the event hands over, and the class wants all
+-- the same, if the event lists operations to transfer and the class requires all
 abbrev pub left_out_by : {A : Type 0} → Parts A → Summary → Event A → ℕ → Option ℕ
 left_out_by m s e t =
     if transfers_over e && wants_whole m s t then left_out s (operations_named e) t else None
 
--- an operation that has to be handed over is left out
+-- an operation that must be transferred is left out
 unfoldable pub partial_delegation : {A : Type 0} → Parts A → Summary → Event A → Option Refusal
 partial_delegation m s e =
     broken_by PartialDelegation (option_and_then (left_out_by m s e) (acting e))
 
--- the smallest operation named that is not there
+-- the smallest operation named that does not exist
 abbrev pub unknown_in : Summary → List OpNo → Option ℕ
 unknown_in s ops = smallest (filter (λ n. is_none (operation_at s.operations n)) (numbers_of ops))
 
--- an operation named is not there
+-- an operation named does not exist
 unfoldable pub bad_set : {A : Type 0} → Summary → Event A → Option Refusal
 bad_set s e = broken_by BadSet (unknown_in s (operations_named e))
 
--- whether t's class refuses operations that conflict
+-- whether t's class refuses conflicting operations
 abbrev pub refuses_conflicts : {A : Type 0} → Parts A → Summary → ℕ → Bool
 refuses_conflicts m s t = has_class (λ k. refuses k.policy) m s t
 
--- the smallest operation that stands against the event's, where the class refuses
+-- the smallest operation that conflicts with the event's, if the class refuses
 abbrev pub first_conflict : {A : Type 0} → Parts A → Summary → Event A → Option ℕ
 first_conflict m s (Operate t ob op) =
     if refuses_conflicts m s t.0 then first_number (stands_against m s t.0 ob op) s.operations else None
 first_conflict m s _ = None
 
--- an operation stands against the event's, and the class refuses
+-- an operation conflicts with the event's, and the class refuses
 unfoldable pub conflict : {A : Type 0} → Parts A → Summary → Event A → Option Refusal
 conflict m s e = broken_by Conflict (first_conflict m s e)
 
--- the smaller of j and i that has begun or ended too early for an edge of this kind to be formed
+-- the smaller of j and i that has already begun or ended, so that an edge of this kind comes too late
 abbrev pub too_late : Summary → Dep → ℕ → ℕ → Option ℕ
 too_late s kind j i =
     if is_begin_kind kind then fails s is_new j
     else smallest (filter (λ t. has_ended (s.status t)) (j ∷ i ∷ []))
 
--- the same, of the edge that the event forms
+-- the same for the edge that the event forms
 abbrev pub formed_late : {A : Type 0} → Summary → Event A → Option ℕ
 formed_late s (Form kind j i) = too_late s kind j.0 i.0
 formed_late s _ = None
@@ -150,11 +150,11 @@ formed_late s _ = None
 unfoldable pub form_too_late : {A : Type 0} → Summary → Event A → Option Refusal
 form_too_late s e = broken_by FormTooLate (formed_late s e)
 
--- more edges would be in force than there may be
+-- more edges would be in force than allowed
 unfoldable pub edges_full : {A : Type 0} → Parts A → Summary → Event A → Option Refusal
 edges_full m s e = broken_if (nat_lt MOST_EDGES (length (formed s.edges (edges_due m s e)))) EdgesFull
 
--- the lowest of the rules before that on conflicts that the event breaks
+-- the lowest rule before Conflict that the event breaks
 abbrev pub broken_before_conflict : {A : Type 0} → Parts A → Summary → Event A → Option Refusal
 broken_before_conflict m s e = first_of (
     full s
@@ -172,12 +172,12 @@ broken_before_conflict m s e = first_of (
     ∷ bad_set s e
     ∷ [])
 
--- the lowest of the rules before that on too many edges that the event breaks
+-- the lowest rule before EdgesFull that the event breaks
 abbrev pub broken_before_edges : {A : Type 0} → Parts A → Summary → Event A → Option Refusal
 broken_before_edges m s e =
     first_of (broken_before_conflict m s e ∷ conflict m s e ∷ form_too_late s e ∷ [])
 
--- the lowest of the rules before those on dependencies that the event breaks
+-- the lowest rule before those on dependencies that the event breaks
 abbrev pub earlier_broken : {A : Type 0} → Parts A → Summary → Event A → Option Refusal
 earlier_broken m s e = first_of (broken_before_edges m s e ∷ edges_full m s e ∷ [])
 
@@ -191,12 +191,12 @@ dependency s (Commit t) = commit_refusal s.status s.edges t.0
 dependency s (Abort t) = abort_refusal s.status s.edges t.0
 dependency s _ = None
 
--- the heir of one that commits, where it is not in progress
+-- the heir of the transaction that commits, if it is not in progress
 abbrev pub lost_heir : {A : Type 0} → Parts A → Summary → Event A → Option ℕ
 lost_heir m s (Commit t) = option_and_then (λ p. fails s is_in_progress p.0) (heir_of m s t.0)
 lost_heir m s _ = None
 
--- the one that would hold what is held next is not in progress
+-- the heir is not in progress
 unfoldable pub no_heir : {A : Type 0} → Parts A → Summary → Event A → Option Refusal
 no_heir m s e = broken_by NoHeir (lost_heir m s e)
 

@@ -1,4 +1,4 @@
--- What the written table knows of a history: no places, only how things stand now.
+-- The current state as the written table sees it, without places.
 use Rattle.std.specs.Prelude.{ℕ, ◌+◌, ◌==◌, List, [], if◌then◌else◌, Option, None}
 use Rattle.acta_table.specs.declared.event.TxnId.{TxnId}
 use Rattle.acta_table.specs.declared.event.ClassId.{ClassId}
@@ -15,8 +15,7 @@ use Rattle.acta_sets.specs.declared.held_op.HeldOp.{HeldOp}
 use Rattle.acta_sets.specs.Operations.{added, moved, transferred, ended}
 use Rattle.acta_sets.specs.Permits.{Permitted, none_permitted, with_permit, without_permits}
 
--- kept: how many events; status, class and parent: of each transaction; operations and edges: by number; permits: those
--- in force
+-- `kept` is the number of events, `operations` and `edges` are by number, `permits` are those in force
 pub record Summary : Type 0 where
   pub kept : ℕ
   pub status : ℕ → Status
@@ -26,7 +25,7 @@ pub record Summary : Type 0 where
   pub edges : List Edge
   pub permits : Permitted
 
--- before any event
+-- the summary before any event
 abbrev pub nothing_yet : Summary
 nothing_yet = record {
   kept = 0;
@@ -38,15 +37,15 @@ nothing_yet = record {
   permits = none_permitted;
 }
 
--- what each transaction has, with t's changed
+-- the function with the value at t changed
 abbrev pub with_entry : {X : Type 0} → (ℕ → X) → ℕ → X → ℕ → X
 with_entry f t x u = if u == t then x else f u
 
--- t's status is this
+-- t gets this status
 unfoldable pub stood : Summary → TxnId → Status → Summary
 stood s t status = record s { status = with_status s.status t.0 status }
 
--- t has ended with this status: no permit that names it is left
+-- t ends with this status, and the permits that it gave or received are removed
 unfoldable pub terminated : Summary → TxnId → Status → Summary
 terminated s t status =
     record s { status = with_status s.status t.0 status; permits = without_permits s.permits t.0 }
@@ -55,12 +54,12 @@ terminated s t status =
 unfoldable pub permit_given : Summary → TxnId → TxnId → ObjId → Summary
 permit_given s t u ob = record s { permits = with_permit s.permits t.0 u.0 ob.0 }
 
--- t's class and parent are these
+-- t gets this class and this parent
 unfoldable pub entered : Summary → TxnId → Option ClassId → Option TxnId → Summary
 entered s t class parent =
     record s { class = with_entry s.class t.0 class; parent = with_entry s.parent t.0 parent }
 
--- these edges are in force too
+-- the edges are formed too, unless they are in force already
 unfoldable pub linked : Summary → List Edge → Summary
 linked s more = record s { edges = formed s.edges more }
 
@@ -68,18 +67,18 @@ linked s more = record s { edges = formed s.edges more }
 unfoldable pub operated : Summary → TxnId → ObjId → Op → Summary
 operated s t ob op = record s { operations = added s.operations t ob op }
 
--- u holds these operations
+-- u becomes the holder of these operations
 unfoldable pub given : Summary → List OpNo → TxnId → Summary
 given s ops u = record s { operations = moved ops u s.operations }
 
--- u holds all that t holds in progress
+-- all that t holds in progress is transferred to u
 unfoldable pub inherited : Summary → TxnId → TxnId → Summary
 inherited s t u = record s { operations = transferred t.0 u s.operations }
 
--- all that t holds in progress has this fate
+-- all that t holds in progress gets this fate
 unfoldable pub fated : Summary → TxnId → Fate → Summary
 fated s t fate = record s { operations = ended t.0 fate s.operations }
 
--- one more event is kept
+-- one more event
 unfoldable pub counted : Summary → Summary
 counted s = record s { kept = s.kept + 1 }

@@ -1,4 +1,4 @@
--- The written table: the answer to an event, the state after it, whole runs, and what readers show.
+-- The written table: the answer to an event, the state after it, whole runs, and the queries.
 use Rattle.std.specs.Prelude.{ℕ, ◌+◌, nat_lt, List, [], ◌∷◌, ◌++◌, length, if◌then◌else◌, Option, Some, None}
 use Rattle.acta_table.specs.declared.event.OpNo.{OpNo}
 use Rattle.acta_table.specs.declared.event.ClassId.{ClassId}
@@ -22,30 +22,30 @@ use Rattle.acta_machine.specs.Values.{value_of, return_due}
 use Rattle.acta_machine.specs.Rules.{lowest_broken}
 use Rattle.acta_machine.specs.Changes.{summary_of}
 
--- a machine: its model, and the events that it kept, with what they returned
+-- the state of a machine: its model, and the events that it kept with their returns
 pub record State (A : Type 0) : Type 0 where
   pub model : Parts A
   pub kept : List (Kept A)
 
--- a machine that has kept nothing
+-- the state of a new machine
 abbrev pub fresh : {A : Type 0} → Parts A → State A
 fresh m = record { model = m; kept = [] }
 
--- the event as it is kept
+-- the event with its return
 abbrev pub kept_as : {A : Type 0} → State A → Event A → Kept A
 kept_as state event =
     record { event = event; ret = return_due state.model (summary_of state.model state.kept) event }
 
--- the rule that an event would break, the lowest, with the number that it names
+-- the lowest rule that the event would break, with the number that it names
 abbrev pub refusal_in : {A : Type 0} → State A → Event A → Option Refusal
 refusal_in state event = lowest_broken state.model (summary_of state.model state.kept) event
 
--- the answer, given the rule that is broken, if one is
+-- the answer, given the broken rule, if there is one
 abbrev pub answered : {A : Type 0} → State A → Event A → Option Refusal → Answer
 answered state event None = Admitted (length state.kept + 1) (kept_as state event).ret
 answered state event (Some r) = Refused r.rule r.by
 
--- the state after, given the same
+-- the next state, given the same
 abbrev pub moved_on : {A : Type 0} → State A → Event A → Option Refusal → State A
 moved_on state event None = record state { kept = state.kept ++ kept_as state event ∷ [] }
 moved_on state event (Some r) = state
@@ -54,7 +54,7 @@ moved_on state event (Some r) = state
 unfoldable pub answer_to : {A : Type 0} → State A → Event A → Answer
 answer_to state event = answered state event (refusal_in state event)
 
--- the state after an event
+-- the state after the event
 unfoldable pub after : {A : Type 0} → State A → Event A → State A
 after state event = moved_on state event (refusal_in state event)
 
@@ -72,11 +72,11 @@ after_all state (event ∷ events) = after_all (after state event) events
 abbrev pub run_answers : {A : Type 0} → Parts A → List (Event A) → List Answer
 run_answers m events = answers_to (fresh m) events
 
--- the state that such a run ends in
+-- the final state of such a run
 abbrev pub run_state : {A : Type 0} → Parts A → List (Event A) → State A
 run_state m events = after_all (fresh m) events
 
--- how a transaction stands, as readers of a machine show it
+-- the status of a transaction
 abbrev pub status_in : {A : Type 0} → State A → ℕ → Status
 status_in state t = (summary_of state.model state.kept).status t
 
@@ -84,7 +84,7 @@ status_in state t = (summary_of state.model state.kept).status t
 abbrev pub class_in : {A : Type 0} → State A → ℕ → Option ClassId
 class_in state t = (summary_of state.model state.kept).class t
 
--- the transaction that spawned it
+-- the transaction that spawned t
 abbrev pub parent_in : {A : Type 0} → State A → ℕ → Option TxnId
 parent_in state t = (summary_of state.model state.kept).parent t
 
@@ -96,15 +96,15 @@ permitted_in state = (summary_of state.model state.kept).permits
 abbrev pub value_in : {A : Type 0} → State A → ℕ → Option (ObjectState A)
 value_in state object = value_of state.model (summary_of state.model state.kept) object
 
--- the operations in progress that t holds
+-- the access set: the operations in progress that t holds
 abbrev pub access_set_in : {A : Type 0} → State A → ℕ → List OpNo
 access_set_in state t = access_set t (summary_of state.model state.kept).operations
 
--- the operations in progress that others hold, where the class of t can leave out its ancestors
+-- the conflict set: the operations in progress that others hold and that are not exempt
 abbrev pub conflict_set_in : {A : Type 0} → State A → ℕ → List OpNo
 conflict_set_in state t = conflict_set_of state.model (summary_of state.model state.kept) t
 
--- the operations that are not aborted
+-- the view: the operations that are not aborted
 abbrev pub view_set_in : {A : Type 0} → State A → List OpNo
 view_set_in state = view_set (summary_of state.model state.kept).operations
 
@@ -112,11 +112,11 @@ view_set_in state = view_set (summary_of state.model state.kept).operations
 abbrev pub operations_in : {A : Type 0} → State A → List HeldOp
 operations_in state = (summary_of state.model state.kept).operations
 
--- the number of the one that is new, where there is one more
+-- the number of the last item, if there are more items than before
 abbrev pub one_more : ℕ → ℕ → Option OpNo
 one_more before now = if nat_lt before now then Some (record { 0 = now }) else None
 
--- the number of the operation that an event adds, if it does
+-- the number of the operation that an event adds, if it adds one
 abbrev pub op_added : {A : Type 0} → State A → Event A → Option OpNo
 op_added state event = one_more (length (operations_in state)) (length (operations_in (after state event)))
 
@@ -124,6 +124,6 @@ op_added state event = one_more (length (operations_in state)) (length (operatio
 abbrev pub edges_in : {A : Type 0} → State A → List Edge
 edges_in state = (summary_of state.model state.kept).edges
 
--- what is owed, by edge number
+-- the debts, by edge number
 abbrev pub debts_in : {A : Type 0} → State A → List Owed
 debts_in state = owed_in (summary_of state.model state.kept).status (summary_of state.model state.kept).edges

@@ -1,4 +1,4 @@
--- Words of the code's own contracts, and what is proved of words: nothing here is needed to read a promise.
+-- Definitions used only by internal contracts and proofs. The public contracts can be read without them.
 pub mod FreshEdges
 pub mod Refused
 pub mod Abstraction

@@ -1,5 +1,5 @@
-//! What an admitted event changes. Each call says which lists it leaves alone; those that can find no memory leave all
-//! as it was. They ask no rule.
+//! The changes made by an admitted event. Each call says which lists it leaves unchanged, and those that allocate
+//! change nothing on `Err`. They check no rules.
 
 ghost use Rattle.std.specs.Prelude.{◌≡◌, take, ◌+◌, ◌-◌, ◌<◌, ◌≤◌, ◌++◌, ◌∷◌, [], true, false, length, OnOk, OnErr, IfOk, vec_capacity, None};
 ghost use Rattle.acta_table.specs.declared.answer.Status.{Status};
@@ -28,7 +28,7 @@ use acta_table::{
 use std::alloc::AllocError;
 
 impl<A: Handle> MachineState<A> {
-    // The last edges, so many of them, are in force no longer.
+    // Removes the last `count` edges.
     fn unlink(&mut self, count: usize)
         requires { count ≤ length (abstraction self.old).edges }
         ensures shows { abstraction self.new ≡ record (abstraction self.old) { edges = take (length (abstraction self.old).edges - count) (abstraction self.old).edges } }
@@ -85,7 +85,7 @@ impl<A: Handle> MachineState<A> {
         let _ = self.kept.push(kept);
     }
 
-    // Makes room for the transaction in the tables by number. Nothing is changed.
+    // Makes room for the transaction in the tables by number. Changes nothing visible.
     fn make_entry(&mut self, t: TxnId) -> Result<(), AllocError>
         requires high { t.0 ≤ LAST_TXN }
         requires records { length self.old.records.items ≤ TABLE_SIZE }
@@ -115,7 +115,7 @@ impl<A: Handle> MachineState<A> {
         self.enter(t, Some(class), parent);
     }
 
-    // No permit that names the transaction is left.
+    // Removes the permits that the transaction gave or received.
     fn drop_permits(&mut self, t: TxnId)
         ensures shows { abstraction self.new ≡ record (abstraction self.old) { permits = without_permits (abstraction self.old).permits t.0 } }
         ensures others { self.new ≡ record self.old { permits = self.new.permits } }
@@ -123,7 +123,7 @@ impl<A: Handle> MachineState<A> {
         self.permits.ended(t);
     }
 
-    // `t` permits `u` to work on the object. On `Err` nothing has changed.
+    // `t` permits `u` to work on the object. On `Err` nothing changes.
     #[tactic(auto, unfolding(crate::specs::Summary::permit_given))]
     fn permit(&mut self, t: TxnId, u: TxnId, ob: ObjId) -> Result<(), AllocError>
         ensures shows { OnOk result (abstraction self.new ≡ permit_given (abstraction self.old) t u ob) }
@@ -149,8 +149,8 @@ impl<A: Handle> MachineState<A> {
         Ok(())
     }
 
-    // What the transaction holds in progress goes to its heir, or is committed where it has none. On `Err` nothing has
-    // changed.
+    // Transfers what the transaction holds in progress to its heir, or commits it if there is none. On `Err` nothing
+    // changes.
     fn settle(&mut self, t: TxnId) -> Result<(), AllocError>
         ensures shows { OnOk result (abstraction self.new ≡ settled (abstraction self.old) t (heir_of self.old.model (abstraction self.old) t.0)) }
         ensures err { OnErr result (abstraction self.new ≡ abstraction self.old) }
@@ -201,7 +201,7 @@ impl<A: Handle> MachineState<A> {
         self.store.add(t, ob, op)
     }
 
-    // Changes how transactions, permits and operations stand. On `Err` nothing has changed.
+    // Changes transactions, permits and operations. On `Err` nothing changes.
     #[tactic(auto, unfolding(acta_table::specs::WellFormed::bad_number))]
     fn change(&mut self, event: &Event<A>) -> Result<(), AllocError>
         requires records { length self.old.records.items ≤ TABLE_SIZE }
@@ -243,7 +243,7 @@ impl<A: Handle> MachineState<A> {
 }
 
 impl<A: Handle> MachineState<A> {
-    /// Room for one more event.
+    /// Makes room for one more event.
     pub(crate) fn make_room(&mut self) -> Result<(), AllocError>
         ensures shows { abstraction self.new ≡ abstraction self.old }
         ensures others { self.new ≡ record self.old { kept = self.new.kept } }
@@ -253,7 +253,7 @@ impl<A: Handle> MachineState<A> {
         self.kept.reserve(1)
     }
 
-    // Forms these edges, and answers how many are new. On `Err` none is formed.
+    // Forms these edges, and returns how many are new. On `Err` none is formed.
     #[tactic(auto, unfolding(crate::specs::Summary::linked))]
     fn link(&mut self, due: &[Edge]) -> Result<usize, AllocError>
         requires fits { length (formed self.old.deps.edges due.now) ≤ MOST_EDGES }
@@ -268,8 +268,8 @@ impl<A: Handle> MachineState<A> {
         Ok(count)
     }
 
-    /// Does what an admitted event does: forms these edges, changes how transactions and operations stand, and keeps
-    /// the event. On `Err` nothing is done: edges that are new are taken back.
+    /// Carries out an admitted event: forms these edges, changes transactions, permits and operations, and keeps the
+    /// event. On `Err` nothing changes: new edges are removed again.
     pub(crate) fn admit(
         &mut self,
         event: &Event<A>,

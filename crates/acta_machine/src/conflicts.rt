@@ -1,4 +1,4 @@
-//! Which operations stand against one that may come next, and the edges that an event forms.
+//! The operations that conflict with a next one, and the edges that an event forms.
 
 ghost use Rattle.std.specs.Prelude.{◌≡◌, None, IfOk};
 ghost use Rattle.acta_table.specs.Faults.{lowest_fault};
@@ -15,7 +15,7 @@ use std::alloc::AllocError;
 use std::collections::BTreeSet;
 
 impl<A: Handle> MachineState<A> {
-    /// The number of the first operation that stands against this one.
+    /// The number of the first operation that conflicts with this one.
     pub(crate) fn first_conflict(
         &self,
         t: TxnId,
@@ -33,7 +33,7 @@ impl<A: Handle> MachineState<A> {
         Ok(number)
     }
 
-    // Who holds those of the operations that stand against this one.
+    // The conflicting holders for this operation.
     fn conflicting_holders(
         &self,
         t: TxnId,
@@ -50,7 +50,7 @@ impl<A: Handle> MachineState<A> {
         holders_against(alloc, &self.model, self.operations(), t, &exempts, ob, op)
     }
 
-    /// The edges that the operation forms, by the policy of the transaction's class.
+    /// The edges that the operation forms, by the policy of its transaction's class.
     pub(crate) fn conflict_edges(
         &self,
         t: TxnId,

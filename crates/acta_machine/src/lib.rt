@@ -1,6 +1,6 @@
-//! The machine: one event after another is admitted, or refused with the lowest rule that it breaks.
-//! Contracts see a machine as its model and the history that it kept; how things stand is a function of
-//! that history, and the lists that the machine keeps inside show it.
+//! The machine admits one event after another, or refuses it with the lowest rule that it breaks. Contracts see a
+//! machine as its model and the history that it kept. Its state is a function of that history, and the machine's lists
+//! represent it.
 //!
 //! A call that allocates returns `Err` if memory runs out.
 #![tactic(auto)]

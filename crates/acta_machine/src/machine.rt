@@ -33,12 +33,11 @@ use acta_table::{
 use acta_values::Store;
 use std::alloc::{AllocError, Allocator};
 
-/// A machine: it admits events of transactions by its model, or refuses them. Contracts see the model and
-/// the history that was kept.
+/// Admits or refuses events of transactions by its model. Contracts see the model and the history.
 #[derive(Drop)]
 pub struct Machine<A: Handle> {
     machine_state: MachineState<A>,
-    // Operations that were refused since the last event that was admitted.
+    // Events that were refused since the last event that was admitted.
     refused: Vec<Refused<A>, A>,
 }
 
@@ -68,7 +67,7 @@ impl<A: Handle> std::marker::Model for Machine<A> {
 }
 
 impl<A: Handle> Machine<A> {
-    /// A machine on the model, which has kept nothing.
+    /// A new machine on the model, with an empty history.
     pub fn new(alloc: A, model: Model<A>) -> Result<Machine<A>, AllocError>
         ensures fresh { IfOk result (λ machine. machine ≡ fresh model) }
         ensures follows { IfOk result FollowsPlaces }
@@ -88,21 +87,21 @@ impl<A: Handle> Machine<A> {
         })
     }
 
-    /// Takes one event: it is admitted and kept, or refused with the lowest rule that it breaks. A refusal leaves the
-    /// machine as it was, and so does `Err`, which comes if memory runs out.
+    /// Takes one event: admits and keeps it, or refuses it with the lowest rule that it breaks. A refusal leaves the
+    /// machine unchanged, and so does `Err`.
     #[tactic(auto, unfolding(crate::specs::Table::answer_to, crate::specs::Table::after))]
     pub fn take(&mut self, event: &Event<A>) -> Result<Answer, AllocError>
         ensures answer { IfOk result (λ answer. answer ≡ answer_to self.old event.now) }
         ensures ok { OnOk result (self.new ≡ after self.old event.now) }
         ensures err { OnErr result (self.new ≡ self.old) }
-        // Statuses, holders, fates and edges are those by places; the history meets the axioms; and of the
-        // events that may come next the rules on dependencies refuse exactly those that would be illegal.
+        // Statuses, holders, fates and edges are those defined by places; the history satisfies the axioms; and the
+        // rules on dependencies refuse exactly those next events that would make the history illegal.
         ensures follows { FollowsPlaces self.new }
     {
         Ok(self.take_with_reason(event)?.answer)
     }
 
-    // Takes one event as `take` does, and says why it is refused, if it is.
+    // Takes one event as `take` does. Also returns why it is refused, if it is.
     #[tactic(auto, unfolding(crate::specs::Table::answer_to, crate::specs::Table::after))]
     fn take_with_reason(&mut self, event: &Event<A>) -> Result<Taken, AllocError>
         ensures answer { IfOk result (λ taken. taken.answer ≡ answer_to self.old event.now) }
@@ -130,9 +129,8 @@ impl<A: Handle> Machine<A> {
         }
     }
 
-    /// Takes one event as `take` does, and says more than the answer: why a refused event is refused, with the lowest rule
-    /// that it breaks; the number of the operation that the event adds; and how many edges were in force before it, which
-    /// the edges that it forms follow.
+    /// Takes one event as `take` does. Also returns why a refused event is refused, the number of the operation that
+    /// the event adds, and how many edges were in force before it (new edges follow these).
     pub fn take_forming(&mut self, event: &Event<A>) -> Result<Formed, AllocError>
         ensures answer { IfOk result (λ formed. formed.answer ≡ answer_to self.old event.now) }
         ensures reason { IfOk result (λ formed. option_map refusal_of formed.reason ≡ refusal_in self.old event.now) }
@@ -160,8 +158,8 @@ impl<A: Handle> Machine<A> {
         })
     }
 
-    /// Why the event would be refused, if it came next: the rule with its number as `take` would answer it, and what of
-    /// the machine breaks it. `None` where it would be admitted.
+    /// Returns why the event would be refused next: the rule and number that `take` would answer, and the part of the
+    /// machine's state that breaks the rule. `None` if the event would be admitted.
     pub fn why(&self, event: &Event<A>) -> Result<Option<Reason>, AllocError>
         ensures refusal { IfOk result (λ reason. option_map refusal_of reason ≡ refusal_in self.now event.now) }
         ensures so { IfOk result (λ reason. IfSome reason (IsSo self.now.model (summary_of self.now.model self.now.kept) event.now)) }
@@ -172,9 +170,9 @@ impl<A: Handle> Machine<A> {
         }
     }
 
-    /// A chain of transactions from `t` on, each of which waits for the next to commit or abort, by a termination
-    /// dependency in force between the two, both in progress; it ends with one that it met before. None of those from
-    /// there on can commit or abort, unless another event ends one of them. `None` where no such chain was found.
+    /// Returns a chain of transactions from `t` on, each waiting for the next to commit or abort, by a termination
+    /// dependency in force between the two, both in progress. The last occurs in the chain earlier. The transactions of
+    /// this cycle cannot commit or abort unless another event ends one of them. `None` if no such chain was found.
     pub fn waits_for_cycle(&self, t: TxnId) -> Result<Option<Items<TxnId, A>>, AllocError>
         ensures chain { IfOk result (λ found. IfSome found (IsChain (status_in self.now) (edges_in self.now))) }
         ensures closed { IfOk result (λ found. IfSome found IsClosed) }
@@ -183,7 +181,7 @@ impl<A: Handle> Machine<A> {
         self.machine_state.deps.waits_for_cycle(t)
     }
 
-    // Why the event is refused, if that is known.
+    // Why the event is refused, if it was refused since the last admitted event.
     fn known_reason(&self, event: &Event<A>) -> Option<Reason>
         ensures refusal { IfSome result (λ reason. lowest_broken self.now.model (summary_of self.now.model self.now.kept) event.now ≡ Some (refusal_of reason)) }
         ensures so { IfSome result (IsSo self.now.model (summary_of self.now.model self.now.kept) event.now) }
@@ -192,7 +190,7 @@ impl<A: Handle> Machine<A> {
         reason_among(&self.refused, event)
     }
 
-    // Notes why the event is refused.
+    // Remembers why the event is refused.
     fn note_refusal(&mut self, event: &Event<A>, reason: Reason)
         requires refusal { lowest_broken self.old.model (summary_of self.old.model self.old.kept) event.now ≡ Some (refusal_of reason) }
         requires so { IsSo self.old.model (summary_of self.old.model self.old.kept) event.now reason }
@@ -202,7 +200,7 @@ impl<A: Handle> Machine<A> {
         keep_refused(&mut self.refused, event, reason);
     }
 
-    // Keeps an event that breaks no rule, and forms these edges. On `Err` nothing is kept.
+    // Keeps an event that breaks no rule, and forms these edges. On `Err` nothing changes.
     #[tactic(auto, unfolding(crate::specs::Table::answer_to, crate::specs::Table::after))]
     fn keep(&mut self, event: &Event<A>, due: &[Edge]) -> Result<Answer, AllocError>
         requires none { lowest_broken self.old.model (summary_of self.old.model self.old.kept) event.now ≡ None }
@@ -226,7 +224,7 @@ impl<A: Handle> Machine<A> {
         Ok(Answer::Admitted { place, ret })
     }
 
-    /// A run: takes the events, in order, on a new machine on the model.
+    /// Takes the events, in order, on a new machine on the model.
     pub fn run(alloc: A, model: Model<A>, events: &[Event<A>]) -> Result<Run<A>, AllocError>
         ensures answers { IfOk result (λ run. run.answers ≡ run_answers model events.now) }
         ensures machine { IfOk result (λ run. run.machine ≡ run_state model events.now) }
@@ -251,8 +249,8 @@ impl<A: Handle> Machine<A> {
         Ok(Items::of(answers))
     }
 
-    /// The value of an object: what its operations that are not aborted leave, replayed in order from the first value.
-    /// Nothing for an object that is not in the model.
+    /// The value of an object: its initial value after the operations that are not aborted, in order. `None` if the
+    /// object is not in the model.
     pub fn value(&self, ob: ObjId) -> Result<Option<ObjectState<A>>, AllocError>
         ensures value { IfOk result (λ value. value ≡ value_in self.now ob.0) }
         ensures places { IfOk result (λ value. value ≡ value_at self.now ob.0) }
@@ -260,8 +258,8 @@ impl<A: Handle> Machine<A> {
         self.machine_state.value(ob)
     }
 
-    /// The operations in progress that the transaction holds, ascending; none for a number that no transaction can
-    /// have.
+    /// The access set: the operations in progress that the transaction holds, ascending. Empty for a number that no
+    /// transaction can have.
     pub fn access_set(&self, t: TxnId) -> Result<Vec<OpNo, A>, AllocError>
         ensures set { IfOk result (λ numbers. numbers.items ≡ access_set_in self.now t.0) }
         ensures places { IfOk result (λ numbers. numbers.items ≡ op_numbers (by_places.access_set self.now.model self.now.kept t.0)) }
@@ -270,8 +268,8 @@ impl<A: Handle> Machine<A> {
         self.machine_state.access_set(t)
     }
 
-    /// The operations in progress that others hold, ascending; a class can leave out what its ancestors hold, also once
-    /// the transaction has ended.
+    /// The conflict set: the operations in progress that others hold and that are not exempt, ascending. It is defined
+    /// also after the transaction has ended.
     pub fn conflict_set(&self, t: TxnId) -> Result<Vec<OpNo, A>, AllocError>
         ensures set { IfOk result (λ numbers. numbers.items ≡ conflict_set_in self.now t.0) }
         ensures places { IfOk result (λ numbers. numbers.items ≡ op_numbers (by_places.conflict_set self.now.model self.now.kept t.0)) }
@@ -279,7 +277,7 @@ impl<A: Handle> Machine<A> {
         self.machine_state.conflict_set(t)
     }
 
-    /// The operations that are not aborted, ascending.
+    /// The view: the operations that are not aborted, ascending.
     pub fn view_set(&self) -> Result<Vec<OpNo, A>, AllocError>
         ensures set { IfOk result (λ numbers. numbers.items ≡ view_set_in self.now) }
         ensures places { IfOk result (λ numbers. numbers.items ≡ op_numbers (by_places.view_set self.now.model self.now.kept)) }
@@ -287,8 +285,7 @@ impl<A: Handle> Machine<A> {
         self.machine_state.operations().view_set()
     }
 
-    /// What transactions owe, by edge number: an event that one of them has yet to do, since another has committed or
-    /// aborted.
+    /// The debts by edge number: events that transactions must still do, because another has committed or aborted.
     pub fn owed(&self) -> Result<Vec<Owed, A>, AllocError>
         ensures debts { IfOk result (λ owed. owed.items ≡ debts_in self.now) }
         ensures places { IfOk result (λ owed. owed.items ≡ debts_by_places.owed self.now.model self.now.kept) }
@@ -296,10 +293,10 @@ impl<A: Handle> Machine<A> {
         self.machine_state.owed()
     }
 
-    /// The serial order of the history: its committed operations, in groups by who held them, the groups in the order
-    /// of the commits, each in the order of the history. Done in this order from the objects' first values, with
-    /// nothing of what has aborted or is in progress, each returns what it returned in the history. `NotStrict` where
-    /// the model isn't strict, and `Memory` if memory runs out.
+    /// The serial order of the history: the committed operations, grouped by holder, in the order of the commits, and
+    /// within a group in the order of the history. Replayed in this order from the initial values, without aborted
+    /// operations and those in progress, each returns what it returned in the history. Returns `NotStrict` if the model
+    /// is not strict, and `Memory` if memory runs out.
     pub fn serial(&self) -> Result<Items<SerialItem, A>, SerialError>
         ensures items { IfOk result (λ items. items ≡ serial_items self.now.model self.now.kept) }
         ensures in_model { IfOk result (λ items. All (λ item. item.ob.0 < length self.now.model.objects) items) }
@@ -318,7 +315,7 @@ impl<A: Handle> Machine<A> {
         )?)
     }
 
-    /// The same machine, in memory of its own.
+    /// Returns a copy of the machine.
     pub fn copy(&self) -> Result<Machine<A>, AllocError>
         ensures { IfOk result (λ machine. machine ≡ self.now) }
     {
@@ -330,14 +327,14 @@ impl<A: Handle> Machine<A> {
 }
 
 impl<A: Handle> Machine<A> {
-    /// The model on which the machine runs.
+    /// The machine's model.
     pub fn model(&self) -> &Model<A>
         ensures { result.now ≡ self.now.model }
     {
         &self.machine_state.model
     }
 
-    /// How the transaction stands. A number that no transaction can have has not begun.
+    /// The status of the transaction. A number that no transaction can have has not begun.
     pub fn status(&self, t: TxnId) -> Status
         ensures status { result ≡ status_in self.now t.0 }
         ensures places { result ≡ status_at self.now.kept t.0 }
@@ -346,7 +343,7 @@ impl<A: Handle> Machine<A> {
         self.machine_state.status(t)
     }
 
-    /// The class that the transaction began with. `None` where it has not begun.
+    /// The class that the transaction began with, or `None` if it has not begun.
     pub fn class(&self, t: TxnId) -> Option<ClassId>
         ensures class { result ≡ class_in self.now t.0 }
         ensures places { option_map (λ class. class.0) result ≡ class_number self.now.kept t.0 }
@@ -354,7 +351,7 @@ impl<A: Handle> Machine<A> {
         self.machine_state.class_number(t)
     }
 
-    /// The transaction that spawned this one. `None` where it began in another way, or has not begun.
+    /// The parent: the transaction that spawned this one. `None` if it began in another way, or has not begun.
     pub fn parent(&self, t: TxnId) -> Option<TxnId>
         ensures parent { result ≡ parent_in self.now t.0 }
         ensures places { result ≡ parent_of self.now.kept t.0 }
@@ -362,7 +359,7 @@ impl<A: Handle> Machine<A> {
         self.machine_state.parent(t)
     }
 
-    /// The permits in force, each once: ascending by who was permitted, then by object, then by who has permitted it.
+    /// All permits in force, each once, ordered by receiver, then by object, then by giver.
     pub fn permits(&self) -> Result<Vec<Permit, A>, AllocError>
         ensures permits { IfOk result (λ list. (h t object : ℕ) → is_listed list.items h t object ≡ permitted_in self.now h t object) }
         ensures places { IfOk result (λ list. (h t object : ℕ) → is_listed list.items h t object ≡ is_permitted self.now.kept h t object) }
@@ -371,7 +368,7 @@ impl<A: Handle> Machine<A> {
         self.machine_state.permits.listed()
     }
 
-    /// How far to look for transactions: none of this number or above has begun, so it has no class and no parent.
+    /// A bound on transaction numbers: none of this number or above has begun, or has a class or a parent.
     pub fn known_txns(&self) -> usize
         ensures status { (t : ℕ) → result ≤ t → status_in self.now t ≡ Status.NotBegun }
         ensures class { (t : ℕ) → result ≤ t → class_in self.now t ≡ None }
@@ -381,7 +378,7 @@ impl<A: Handle> Machine<A> {
         self.machine_state.known_txns()
     }
 
-    /// The edges in force, in order of forming, each once: at most 16,384. The first has the number 1.
+    /// The edges in force, in order of forming, each once: at most 16,384, numbered from 1.
     pub fn edges(&self) -> &[Edge]
         ensures edges { result.now ≡ edges_in self.now }
         ensures places { result.now ≡ edges_by_places.edges self.now.model self.now.kept }
@@ -390,8 +387,7 @@ impl<A: Handle> Machine<A> {
         self.machine_state.deps.edges()
     }
 
-    /// The operations, in order, each with who holds it and what became of it: at most 65,536. The first has the
-    /// number 1.
+    /// The operations in order, each with its holder and fate: at most 65,536, numbered from 1.
     pub fn operations(&self) -> &[HeldOp]
         ensures operations { result.now ≡ operations_in self.now }
         ensures few { length (operations_in self.now) ≤ MOST_EVENTS }
@@ -399,19 +395,18 @@ impl<A: Handle> Machine<A> {
         self.machine_state.operations().operations()
     }
 
-    /// The history: the events that were admitted, in order, with what they returned; at
-    /// most 65,536.
+    /// The history: the admitted events with their returns, in order; at most 65,536.
     pub fn history(&self) -> &[Kept<A>]
         ensures history { result.now ≡ self.now.kept }
         ensures within { length self.now.kept ≤ MOST_EVENTS }
-        // The axioms, the legality and all else that `take` says of it.
+        // The axioms, legality, and everything else stated at `take`.
         ensures follows { FollowsPlaces self.now }
     {
         self.machine_state.kept.as_slice()
     }
 }
 
-// The answer to an event, and why it was refused, if it was.
+// The answer to an event, and the reason if it was refused.
 #[derive(Drop)]
 struct Taken {
     answer: Answer,
@@ -419,7 +414,7 @@ struct Taken {
 }
 
 impl Taken {
-    // An event that was refused.
+    // The outcome of a refused event.
     fn refused(reason: Reason) -> Taken
         ensures answer { result.answer ≡ Answer.Refused (refusal_of reason).rule (refusal_of reason).by }
         ensures reason { result.reason ≡ Some reason }
@@ -432,20 +427,20 @@ impl Taken {
     }
 }
 
-/// What became of an event.
+/// The outcome of an event.
 #[derive(Clone, Copy, PartialEq, Eq, Debug)]
 pub struct Formed {
     /// The answer to it.
     pub answer: Answer,
-    /// Why it was refused, if it was.
+    /// Why the event was refused, if it was.
     pub reason: Option<Reason>,
-    /// The number of the operation that it added, if it is one that was admitted.
+    /// The number of the operation that the event added, if it did.
     pub op: Option<OpNo>,
-    /// How many edges were in force before it: those that it formed stand behind them.
+    /// How many edges were in force before the event; the edges that it formed follow these.
     pub edges_before: usize,
 }
 
-/// What a run leaves: the answer to each event, and the machine after the last.
+/// The result of a run: the answer to each event, and the machine after the last.
 #[derive(Drop)]
 pub struct Run<A: Handle> {
     pub answers: Items<Answer, A>,

@@ -1,4 +1,4 @@
-//! All that a machine keeps, and the calls that read it.
+//! The state of a machine, and the calls that read it.
 
 ghost use Rattle.std.specs.Prelude.{◌≡◌, ◌+◌, ◌<◌, ◌≤◌, [], true, false, map, length, ℕ, IfOk, None, option_map};
 ghost use Rattle.acta_table.specs.declared.answer.Status.{Status};
@@ -29,7 +29,7 @@ use acta_values::Store;
 use std::alloc::{AllocError, Allocator};
 use std::collections::BTreeSet;
 
-/// How a transaction started: the class that it began with, and the one that spawned it.
+/// How a transaction started: the class that it began with, and its parent.
 #[derive(Clone, Copy)]
 pub(crate) struct TxnRecord {
     pub(crate) class: Option<ClassId>,
@@ -37,26 +37,26 @@ pub(crate) struct TxnRecord {
 }
 
 impl TxnRecord {
-    /// The origin of one that has not begun.
+    /// The record of a transaction that has not begun.
     pub(crate) const UNBEGUN: TxnRecord = TxnRecord {
         class: None,
         parent: None,
     };
 }
 
-/// All that a machine keeps, in plain lists. It has no model of its own: `abstraction` says what it stands for.
+/// The state of a machine, in plain lists. `abstraction` maps it to the summary that contracts use.
 #[derive(Drop)]
 pub(crate) struct MachineState<A: Handle> {
     pub(crate) model: Model<A>,
     pub(crate) deps: Deps<A>,
-    // By the number of the transaction. One past the end has not begun.
+    // Indexed by transaction number. A transaction past the end has not begun.
     pub(crate) records: Vec<TxnRecord, A>,
     pub(crate) store: Store<A>,
     pub(crate) permits: Permits<A>,
     pub(crate) kept: Vec<Kept<A>, A>,
 }
 
-// The same items, in memory of their own.
+// Returns a copy of the items.
 fn copy_all<A: Allocator + Copy>(alloc: A, items: &[Kept<A>]) -> Result<Vec<Kept<A>, A>, AllocError>
     ensures { IfOk result (λ copied. copied.items ≡ items.now) }
 {
@@ -87,14 +87,14 @@ impl<A: Handle> MachineState<A> {
         *self.kept.allocator()
     }
 
-    /// The operations, with who holds them and what became of each.
+    /// The operations, with holders and fates.
     pub(crate) fn operations(&self) -> &OpTable<A>
         ensures { result.now ≡ self.now.store.items }
     {
         self.store.operations()
     }
 
-    /// The value of an object; nothing for one that is not in the model.
+    /// The value of an object, or `None` if it is not in the model.
     pub(crate) fn value(&self, ob: ObjId) -> Result<Option<ObjectState<A>>, AllocError>
         requires { self.now.store.kinds ≡ kinds_of self.now.model.objects }
         ensures { IfOk result (λ value. value ≡ value_of self.now.model (abstraction self.now) ob.0) }
@@ -102,7 +102,7 @@ impl<A: Handle> MachineState<A> {
         self.store.value(ob)
     }
 
-    /// What the event returns. Takes no memory.
+    /// The return that the event would have. Allocates nothing.
     pub(crate) fn return_of(&self, event: &Event<A>) -> Option<Ret>
         requires { self.now.store.kinds ≡ kinds_of self.now.model.objects }
         ensures { result ≡ return_due self.now.model (abstraction self.now) event.now }
@@ -121,7 +121,7 @@ impl<A: Handle> MachineState<A> {
         }
     }
 
-    /// The place that the next event gets, where none is refused for want of room.
+    /// The place of the next event, which must break no rule.
     #[tactic(auto, unfolding(crate::specs::Rules::full))]
     pub(crate) fn next_place(&self, event: &Event<A>) -> u32
         requires { lowest_broken self.now.model (abstraction self.now) event.now ≡ None }
@@ -131,7 +131,7 @@ impl<A: Handle> MachineState<A> {
         self.kept.len() as u32 + 1
     }
 
-    /// The same lists, in memory of their own.
+    /// Returns a copy of the state.
     pub(crate) fn copy(&self) -> Result<MachineState<A>, AllocError>
         ensures model { IfOk result (λ machine_state. machine_state.model ≡ self.now.model) }
         ensures kept { IfOk result (λ machine_state. machine_state.kept.items ≡ self.now.kept.items) }
@@ -158,14 +158,14 @@ impl<A: Handle> MachineState<A> {
 }
 
 impl<A: Handle> MachineState<A> {
-    /// All that is owed, by edge number.
+    /// All debts, by edge number.
     pub(crate) fn owed(&self) -> Result<Vec<Owed, A>, AllocError>
         ensures { IfOk result (λ owed. owed.items ≡ owed_in (abstraction self.now).status (abstraction self.now).edges) }
     {
         self.deps.owed()
     }
 
-    /// The operations in progress that the transaction holds: none where it isn't in progress itself.
+    /// The operations in progress that the transaction holds: none unless it is in progress itself.
     pub(crate) fn access_set(&self, t: TxnId) -> Result<Vec<OpNo, A>, AllocError>
         requires { AreHeldWell (abstraction self.now) }
         ensures set { IfOk result (λ ops. ops.items ≡ access_set t.0 self.now.store.items) }
@@ -178,7 +178,7 @@ impl<A: Handle> MachineState<A> {
         Ok(ops)
     }
 
-    /// The operations in progress that others hold, but for those whom the transaction is exempt.
+    /// The operations in progress that others hold and that are not exempt.
     pub(crate) fn conflict_set(&self, t: TxnId) -> Result<Vec<OpNo, A>, AllocError>
         ensures { IfOk result (λ ops. ops.items ≡ conflict_set_of self.now.model (abstraction self.now) t.0) }
     {
@@ -186,7 +186,7 @@ impl<A: Handle> MachineState<A> {
         self.operations().conflict_set(t, &exempt, &self.permits)
     }
 
-    // The ancestors of the transaction, where its class leaves them out of its conflict set.
+    // The ancestors of the transaction, if its class exempts them.
     fn exempt(&self, t: TxnId) -> Result<Vec<TxnId, A>, AllocError>
         ensures { IfOk result (λ txns. txns.items ≡ exempt self.now.model (abstraction self.now) t.0) }
     {
@@ -213,8 +213,8 @@ impl<A: Handle> MachineState<A> {
         txn_numbers(self.allocator(), &exempt)
     }
 
-    /// Those whose operations on the object the transaction is exempt: ancestors that its class leaves out of its
-    /// conflict set, and those who permit it to work there.
+    /// The transactions whose operations on the object are exempt: ancestors, if the class exempts them, and those that
+    /// permit the transaction to work there.
     pub(crate) fn exempt_on(&self, t: TxnId, ob: ObjId) -> Result<BTreeSet<u16, A>, AllocError>
         ensures { IfOk result (λ numbers. AreExempt self.now.model (abstraction self.now) t.0 ob.0 numbers.keys) }
     {
@@ -224,7 +224,7 @@ impl<A: Handle> MachineState<A> {
 }
 
 impl<A: Handle> MachineState<A> {
-    /// How the transaction stands.
+    /// The status of the transaction.
     pub(crate) fn status(&self, t: TxnId) -> Status
         ensures status { result ≡ (abstraction self.now).status t.0 }
         ensures nobody { is_bad_number t.0 ≡ true → result ≡ Status.NotBegun }
@@ -240,7 +240,7 @@ impl<A: Handle> MachineState<A> {
         matches!(self.status(t), Status::InProgress)
     }
 
-    /// No transaction of this number or above is in a table.
+    /// A bound on transaction numbers: no table has an entry for this number or above.
     pub(crate) fn known_txns(&self) -> usize
         requires { length self.now.records.items ≤ TABLE_SIZE }
         ensures status { (t : ℕ) → result ≤ t → (abstraction self.now).status t ≡ Status.NotBegun }
@@ -260,7 +260,7 @@ impl<A: Handle> MachineState<A> {
         }
     }
 
-    /// The one that spawned the transaction.
+    /// The parent of the transaction.
     pub(crate) fn parent(&self, t: TxnId) -> Option<TxnId>
         ensures { result ≡ (abstraction self.now).parent t.0 }
     {
@@ -282,7 +282,7 @@ impl<A: Handle> MachineState<A> {
         self.model.class(class)
     }
 
-    // Whether the transaction's class leaves its ancestors out of its conflict set.
+    // Whether the transaction's class exempts ancestors.
     fn exempts_ancestors(&self, t: TxnId) -> bool
         ensures { result ≡ has_class (λ k. exempts k.scope) self.now.model (abstraction self.now) t.0 }
     {

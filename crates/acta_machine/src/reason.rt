@@ -8,21 +8,21 @@ use acta_objects::FormFault;
 use acta_sets::HeldOp;
 use acta_table::{ClassId, EventKind, OpNo, Refusal, Rule, Status, TxnId};
 
-/// What an event needs of the model's classes, and doesn't have.
+/// A permission of the model's classes that an event needs but lacks.
 #[derive(Clone, Copy, PartialEq, Eq, Debug)]
 pub enum Lack {
-    /// The class doesn't let transactions start by such an event.
+    /// The class does not allow starts by such an event.
     Start {
         class: ClassId,
         kind: EventKind,
     },
-    /// The class of the transaction doesn't let it do such an event, or it has none.
+    /// The transaction's class does not allow it to do such an event, or it has none.
     Doing {
         txn: TxnId,
         class: Option<ClassId>,
         kind: EventKind,
     },
-    /// No class of the model lets edges be formed.
+    /// No class of the model may form edges.
     Forming,
 }
 
@@ -33,10 +33,10 @@ pub struct NumberedOp {
     pub held: HeldOp,
 }
 
-/// Why an event is refused: the lowest rule that it breaks, with what of the machine breaks it.
+/// Why an event is refused: the lowest rule that it breaks, and the part of the machine's state that breaks it.
 #[derive(Clone, Copy, PartialEq, Eq, Debug)]
 pub enum Reason {
-    /// As many events are kept as there may be.
+    /// The history has as many events as it may.
     Full,
     /// The form of the event is wrong: one of the rules from `BadNumber` to `SameTransaction`.
     Form(FormFault),
@@ -48,9 +48,9 @@ pub enum Reason {
     NotInModel(Lack),
     /// The transaction that is joined, delegated to or permitted is not in progress; its status.
     PartnerNotInProgress { txn: TxnId, status: Status },
-    /// An operation that the event names is not held in progress by the transaction that hands it over: the lowest.
+    /// The acting transaction does not hold an operation that the event names in progress: the lowest.
     NotResponsible(NumberedOp),
-    /// An operation that has to be handed over is not named: the lowest.
+    /// An operation that must be transferred is not named: the lowest.
     PartialDelegation(NumberedOp),
     /// The event names an operation that does not exist: the lowest number, and how many operations there are.
     BadSet { number: OpNo, operations: usize },
@@ -69,7 +69,7 @@ pub enum Reason {
 }
 
 impl Reason {
-    /// The rule that is broken, with the number that the rule names.
+    /// The broken rule, with the number that the rule names.
     pub fn refusal(self) -> Refusal
         ensures { result ≡ refusal_of self }
     {

@@ -1,5 +1,5 @@
-//! Events that were refused since the last event that was admitted, with the reasons: a refusal changes nothing, so an
-//! event that is submitted again, as one that waits is, is answered at once.
+//! A cache of the events that were refused since the last admitted event, with the reasons. A refusal changes nothing,
+//! so an event that is submitted again, such as a waiting one, can be answered at once.
 
 ghost use Rattle.std.specs.Prelude.{◌≡◌, IfSome};
 ghost use Rattle.acta_table.specs.declared.model.Parts.{Parts};
@@ -10,17 +10,17 @@ use crate::reason::Reason;
 use acta_table::Event;
 use std::alloc::Allocator;
 
-// For how many refusals there is room, from the first one on.
+// The capacity of the cache.
 const ROOM: usize = 64;
 
-/// An event that was refused, and why.
+/// A refused event, and the reason.
 #[derive(Drop)]
 pub(crate) struct Refused<A: Allocator> {
     pub(crate) event: Event<A>,
     pub(crate) reason: Reason,
 }
 
-/// Why the event is refused, if it is among these.
+/// Why the event is refused, if it is in the list.
 pub(crate) fn reason_among<A: Allocator>(refused: &[Refused<A>], event: &Event<A>) -> Option<Reason>
     ensures { (m : Parts A) → (s : Summary) → AreRefused m s refused.now → IfSome result (IsRefusedBy m s event.now) }
 {
@@ -32,7 +32,7 @@ pub(crate) fn reason_among<A: Allocator>(refused: &[Refused<A>], event: &Event<A
     None
 }
 
-// The same event, unless it names a list of operations, which would take memory.
+// A copy of the event, unless it has a list of operations, which would need an allocation.
 fn without_memory<A: Allocator>(event: &Event<A>) -> Option<Event<A>>
     ensures { IfSome result (λ copy. copy ≡ event.now) }
 {
@@ -49,7 +49,7 @@ fn without_memory<A: Allocator>(event: &Event<A>) -> Option<Event<A>>
     }
 }
 
-// Gets the room for refusals, if there is none yet. If memory runs out, nothing changes.
+// Reserves the capacity on first use. If memory runs out, nothing changes.
 fn get_room<A: Allocator>(refused: &mut Vec<Refused<A>, A>)
     ensures { refused.new.items ≡ refused.old.items }
 {
@@ -58,7 +58,7 @@ fn get_room<A: Allocator>(refused: &mut Vec<Refused<A>, A>)
     }
 }
 
-// Puts a refusal behind the others, or begins anew if there is no room.
+// Appends a refusal. If there is no room, empties the list instead.
 fn put_refused<A: Allocator>(refused: &mut Vec<Refused<A>, A>, one: Refused<A>)
     ensures { (m : Parts A) → (s : Summary) → AreRefused m s refused.old.items → IsRefusedBy m s one.event one.reason → AreRefused m s refused.new.items }
 {
@@ -71,8 +71,8 @@ fn put_refused<A: Allocator>(refused: &mut Vec<Refused<A>, A>, one: Refused<A>)
     }
 }
 
-/// Notes why the event is refused, unless it names a list of operations or there is no memory: such an event is checked
-/// again if it comes again.
+/// Remembers why the event is refused, unless it names a list of operations or memory runs out. An event that is not
+/// remembered is checked again when it comes again.
 pub(crate) fn keep_refused<A: Allocator>(
     refused: &mut Vec<Refused<A>, A>,
     event: &Event<A>,

@@ -28,7 +28,7 @@ use acta_table::{
 };
 use std::alloc::{AllocError, Allocator};
 
-// The transaction that is handed something, and has to be in progress too.
+// The transaction that is joined, delegated to or permitted, which must be in progress too.
 fn partner_of<A: Allocator>(event: &Event<A>) -> Option<TxnId>
     ensures { partner event.now ≡ option_map (λ t. t.0) result }
 {
@@ -81,7 +81,7 @@ impl<A: Handle> MachineState<A> {
         }
     }
 
-    // Whether the class of this number may start by a begin.
+    // Whether the class with this number may start by a begin.
     fn may_begin(&self, class: ClassId) -> bool
         ensures { result ≡ class_may self.now.model class.0 EventKind.Begin }
     {
@@ -91,7 +91,7 @@ impl<A: Handle> MachineState<A> {
         }
     }
 
-    // Whether the class of this number may start by a spawn.
+    // Whether the class with this number may start by a spawn.
     fn may_be_spawned(&self, class: ClassId) -> bool
         ensures { result ≡ class_may self.now.model class.0 EventKind.Spawn }
     {
@@ -101,7 +101,7 @@ impl<A: Handle> MachineState<A> {
         }
     }
 
-    // Whether the class of this number may start by a split.
+    // Whether the class with this number may start by a split.
     fn may_be_split(&self, class: ClassId) -> bool
         ensures { result ≡ class_may self.now.model class.0 EventKind.Split }
     {
@@ -128,7 +128,7 @@ impl<A: Handle> MachineState<A> {
         self.status(t) != Status::NotBegun && !self.may(t, EventKind::Form)
     }
 
-    // What the class lacks, if it can't start by such an event.
+    // What the class lacks if it may not start by such an event.
     fn lacks_start(&self, class: ClassId, kind: EventKind, may: bool) -> Option<Lack>
         requires { may ≡ class_may self.now.model class.0 kind }
         ensures none { is_none result ≡ class_may self.now.model class.0 kind }
@@ -141,7 +141,7 @@ impl<A: Handle> MachineState<A> {
         }
     }
 
-    // What the transaction's class lacks, if it may not do events of this kind.
+    // What the transaction's class lacks if it may not do events of this kind.
     fn lacks_doing(&self, txn: TxnId, kind: EventKind) -> Option<Lack>
         ensures none { is_none result ≡ txn_may self.now.model (abstraction self.now) txn.0 kind }
         ensures some { IfSome result (λ lack. lack ≡ Lack.Doing txn ((abstraction self.now).class txn.0) kind) }
@@ -154,7 +154,7 @@ impl<A: Handle> MachineState<A> {
         }
     }
 
-    // What the transaction's class lacks, if it has begun with one that may form no edges.
+    // What the transaction's class lacks if the transaction has begun and the class may not form edges.
     fn lacks_forming(&self, txn: TxnId) -> Option<Lack>
         ensures none { is_some result ≡ forms_none self.now.model (abstraction self.now) txn.0 }
         ensures some { IfSome result (λ lack. lack ≡ Lack.Doing txn ((abstraction self.now).class txn.0) EventKind.Form) }
@@ -166,7 +166,7 @@ impl<A: Handle> MachineState<A> {
         }
     }
 
-    // What the model lacks, if no class of it may form edges.
+    // What the model lacks if no class may form edges.
     fn lacks_formers(&self) -> Option<Lack>
         ensures none { is_none result ≡ list_any (can_do EventKind.Form) self.now.model.classes }
         ensures some { IfSome result (λ lack. lack ≡ Lack.Forming) }
@@ -178,7 +178,7 @@ impl<A: Handle> MachineState<A> {
         }
     }
 
-    // What the classes lack that the event needs.
+    // What the classes lack for the event, if anything.
     fn lack(&self, event: &Event<A>) -> Option<Lack>
         ensures none { is_none result ≡ is_allowed self.now.model (abstraction self.now) event.now }
         ensures so { IfSome result (IsLack self.now.model (abstraction self.now) event.now) }
@@ -229,7 +229,7 @@ impl<A: Handle> MachineState<A> {
         }
     }
 
-    // The operation of this number, where there is one.
+    // The operation with this number, if there is one.
     fn numbered(&self, number: u32) -> Option<NumberedOp>
         ensures held { option_map (λ op. op.held) result ≡ operation_at (abstraction self.now).operations number }
         ensures number { IfSome result (λ op. op.number.0 ≡ number) }
@@ -239,7 +239,7 @@ impl<A: Handle> MachineState<A> {
         Some(NumberedOp { number, held })
     }
 
-    // Whether the operation is there, and the transaction does not hold it in progress.
+    // Whether the operation exists and the transaction does not hold it in progress.
     fn is_of_another(&self, t: TxnId, op: OpNo) -> bool
         ensures { result ≡ is_of_another (abstraction self.now) t.0 op.0 }
     {
@@ -249,7 +249,7 @@ impl<A: Handle> MachineState<A> {
         }
     }
 
-    // The smallest of the operations that is there, and that the transaction does not hold in progress.
+    // The smallest of these operations that exists and that the transaction does not hold in progress.
     #[tactic(auto, using(acta_table::proofs::Smallest::least_is_smallest))]
     fn not_held(&self, ops: &[OpNo], t: TxnId) -> Option<u32>
         ensures { result ≡ not_held (abstraction self.now) ops.now t.0 }
@@ -276,7 +276,7 @@ impl<A: Handle> MachineState<A> {
         Some(Reason::NotResponsible(op))
     }
 
-    // Whether the transaction's class wants all that it holds handed over.
+    // Whether the transaction's class requires it to transfer all that it holds.
     fn wants_whole(&self, t: TxnId) -> bool
         ensures { result ≡ wants_whole self.now.model (abstraction self.now) t.0 }
     {
@@ -286,7 +286,7 @@ impl<A: Handle> MachineState<A> {
         }
     }
 
-    // The smallest operation that the transaction holds in progress, and that is not named.
+    // The smallest operation that the transaction holds in progress and that is not named.
     fn left_out(&self, ops: &OpSet<A>, t: TxnId) -> Option<u32>
         ensures { result ≡ left_out (abstraction self.now) ops.now t.0 }
     {
@@ -309,7 +309,7 @@ impl<A: Handle> MachineState<A> {
         Some(Reason::PartialDelegation(op))
     }
 
-    // The smallest of the operations that is not there.
+    // The smallest of these operations that does not exist.
     #[tactic(auto, using(acta_table::proofs::Smallest::least_is_smallest))]
     fn unknown_in(&self, ops: &[OpNo]) -> Option<u32>
         ensures { result ≡ unknown_in (abstraction self.now) ops.now }
@@ -336,7 +336,7 @@ impl<A: Handle> MachineState<A> {
         Some(Reason::BadSet { number, operations })
     }
 
-    // Whether the transaction's class refuses operations that conflict.
+    // Whether the transaction's class refuses conflicting operations.
     fn refuses_conflicts(&self, t: TxnId) -> bool
         ensures { result ≡ refuses_conflicts self.now.model (abstraction self.now) t.0 }
     {
@@ -378,7 +378,7 @@ impl<A: Handle> MachineState<A> {
         }
     }
 
-    // The smaller of j and i that has begun or ended too early for an edge of this kind to be formed.
+    // The smaller of j and i that has already begun or ended, so that an edge of this kind comes too late.
     fn too_late(&self, kind: Dep, j: TxnId, i: TxnId) -> Option<TxnId>
         ensures { option_map (λ t. t.0) result ≡ too_late (abstraction self.now) kind j.0 i.0 }
     {
@@ -405,7 +405,7 @@ impl<A: Handle> MachineState<A> {
         Some(Reason::FormTooLate { txn, status })
     }
 
-    // More edges would be in force than there may be, where the event forms these.
+    // The reason if, with these edges formed, more would be in force than allowed.
     #[tactic(auto, unfolding(crate::specs::Rules::edges_full))]
     fn edges_full(&self, event: &Event<A>, due: &[Edge]) -> Option<Reason>
         requires { due.now ≡ edges_due self.now.model (abstraction self.now) event.now }
@@ -413,7 +413,7 @@ impl<A: Handle> MachineState<A> {
         ensures so { IfSome result (λ it. it ≡ Reason.EdgesFull) }
     {
         let room = MOST_EDGES - self.deps.edges().len();
-        // (where all would fit, none need be looked for)
+        // (if all would fit, counting the new ones is unnecessary)
         if due.len() > room && self.deps.lacks(due) > room {
             Some(Reason::EdgesFull)
         } else {
@@ -421,7 +421,7 @@ impl<A: Handle> MachineState<A> {
         }
     }
 
-    // What is wrong with the event's form.
+    // The fault in the event's form.
     fn bad_form(&self, event: &Event<A>) -> Option<Reason>
         ensures refusal { option_map refusal_of result ≡ form_refusal self.now.model event.now }
         ensures so { IfSome result (IsSo self.now.model (abstraction self.now) event.now) }
@@ -441,7 +441,7 @@ impl<A: Handle> MachineState<A> {
             .or_else(|| self.already_begun(event))
     }
 
-    // Why it is refused by the lowest of the rules on what is handed over.
+    // The reason for the lowest broken rule on transferred operations.
     fn ill_transferred(&self, event: &Event<A>) -> Option<Reason>
         ensures refusal { option_map refusal_of result ≡ first_of (not_responsible (abstraction self.now) event.now ∷ partial_delegation self.now.model (abstraction self.now) event.now ∷ bad_set (abstraction self.now) event.now ∷ []) }
         ensures so { IfSome result (IsSo self.now.model (abstraction self.now) event.now) }
@@ -451,7 +451,7 @@ impl<A: Handle> MachineState<A> {
             .or_else(|| self.bad_set(event))
     }
 
-    // Why it is refused by the lowest of the rules before that on conflicts.
+    // The reason for the lowest broken rule before Conflict.
     fn before_conflict(&self, event: &Event<A>) -> Option<Reason>
         ensures refusal { option_map refusal_of result ≡ broken_before_conflict self.now.model (abstraction self.now) event.now }
         ensures so { IfSome result (IsSo self.now.model (abstraction self.now) event.now) }
@@ -462,7 +462,7 @@ impl<A: Handle> MachineState<A> {
             .or_else(|| self.ill_transferred(event))
     }
 
-    /// Why it is refused by the lowest of the rules before that on too many edges.
+    /// The reason for the lowest broken rule before EdgesFull.
     pub(crate) fn broken_before_edges(&self, event: &Event<A>) -> Result<Option<Reason>, AllocError>
         ensures refusal { IfOk result (λ reason. option_map refusal_of reason ≡ broken_before_edges self.now.model (abstraction self.now) event.now) }
         ensures so { IfOk result (λ reason. IfSome reason (IsSo self.now.model (abstraction self.now) event.now)) }
@@ -491,7 +491,7 @@ impl<A: Handle> MachineState<A> {
         }
     }
 
-    // What blocks the event by the edges in force.
+    // What blocks the event because of the edges in force.
     fn block(&self, event: &Event<A>) -> Option<Block>
         ensures refusal { option_map refusal_by result ≡ dependency (abstraction self.now) event.now }
         ensures so { IfSome result (IsBlock (abstraction self.now).status (statuses_after (abstraction self.now).status event.now) (abstraction self.now).edges) }
@@ -521,7 +521,8 @@ impl<A: Handle> MachineState<A> {
         }
     }
 
-    /// Why the event, which would form these edges and breaks none of the rules before that on too many edges, is refused.
+    /// The reason for the lowest broken rule, for an event that would form these edges and breaks no rule before
+    /// EdgesFull.
     pub(crate) fn broken_from_edges(&self, event: &Event<A>, due: &[Edge]) -> Option<Reason>
         requires due { due.now ≡ edges_due self.now.model (abstraction self.now) event.now }
         requires none_before { broken_before_edges self.now.model (abstraction self.now) event.now ≡ None }
@@ -534,7 +535,7 @@ impl<A: Handle> MachineState<A> {
         self.why_by_edges(event).or_else(|| self.no_heir(event))
     }
 
-    /// The edges that the event forms, if it breaks no rule, or else why it is refused.
+    /// The edges that the event forms if it breaks no rule, otherwise why it is refused.
     pub(crate) fn admission(
         &self,
         event: &Event<A>,
@@ -555,7 +556,7 @@ impl<A: Handle> MachineState<A> {
         }
     }
 
-    /// Why the event is refused; `None` if it breaks no rule.
+    /// Why the event is refused, or `None` if it breaks no rule.
     pub(crate) fn why(&self, event: &Event<A>) -> Result<Option<Reason>, AllocError>
         ensures refusal { IfOk result (λ reason. option_map refusal_of reason ≡ lowest_broken self.now.model (abstraction self.now) event.now) }
         ensures so { IfOk result (λ reason. IfSome reason (IsSo self.now.model (abstraction self.now) event.now)) }

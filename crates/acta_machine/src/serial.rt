@@ -8,7 +8,7 @@ use std::alloc::AllocError;
 pub enum SerialError {
     /// The model isn't strict.
     NotStrict,
-    /// There is no memory.
+    /// Memory ran out.
     Memory,
 }
 

@@ -1,5 +1,5 @@
-//! The five standard models: one for each of ACTA's well-known kinds of transaction, as the canonical texts that the
-//! program holds. All have the objects `x` (a register), `n` and `m` (counters) and `s` (a set).
+//! The five standard models, one for each of ACTA's well-known kinds of transaction, as canonical texts in the program. All
+//! have the objects `x` (a register), `n` and `m` (counters) and `s` (a set).
 //!
 //! A call that allocates returns `Err` if memory runs out.
 #![tactic(auto)]

@@ -10,7 +10,7 @@ use acta_lang::{AsmError, assemble};
 use acta_table::Model;
 use std::alloc::{AllocError, Allocator};
 
-// The model that the text of a standard model means.
+// Parses the text of a standard model.
 fn load<A: Allocator + Copy>(alloc: A, name: Standard) -> Result<Model<A>, AllocError>
     ensures meant { IfOk result (λ model. meaning (text_of_standard name) ≡ Ok model) }
     ensures canonical { IfOk result (λ model. canonical model ≡ text_of_standard name) }
@@ -22,8 +22,7 @@ fn load<A: Allocator + Copy>(alloc: A, name: Standard) -> Result<Model<A>, Alloc
     }
 }
 
-/// The five standard models, in the order of `Standard::ALL`: what their texts mean, which are the canonical texts of
-/// these models.
+/// The five standard models, in the order of `Standard::ALL`, parsed from their texts, which are canonical.
 pub fn load_all<A: Allocator + Copy>(alloc: A) -> Result<Vec<Model<A>, A>, AllocError>
     ensures meant { IfOk result (λ models. map Ok models.items ≡ map (λ name. meaning (text_of_standard name)) all_standards) }
     ensures canonical { IfOk result (λ models. map canonical models.items ≡ map text_of_standard all_standards) }

@@ -6,15 +6,15 @@ ghost use Rattle.acta_models.specs.Standards.{text_of_standard, name_of_standard
 /// A standard model.
 #[derive(Clone, Copy, Debug, PartialEq, Eq)]
 pub enum Standard {
-    /// Flat transactions: what conflicts is refused.
+    /// Flat transactions: conflicting operations are refused.
     Atomic,
-    /// Nested transactions: what a subtransaction holds goes to its parent when it commits.
+    /// Nested transactions: when a subtransaction commits, its parent inherits its operations.
     Nested,
     /// Transactions that split, join and delegate.
     SplitJoin,
-    /// Transactions that depend on those whose work they saw, in place of being refused.
+    /// Transactions that conflict are not refused but depend on those whose work they saw.
     Recoverable,
-    /// Transactions among which dependencies are formed by events of their own.
+    /// Transactions between which form events form dependencies.
     Contingent,
 }
 
@@ -124,15 +124,14 @@ pub fn split_join() -> &'static str
     SPLIT_JOIN
 }
 
-/// The canonical text of transactions that depend on those whose work they saw (ours, after ACTA's dependencies by
-/// behaviour).
+/// The canonical text of transactions that depend on those whose work they saw.
 pub fn recoverable() -> &'static str
     ensures { result.now ≡ RECOVERABLE.now }
 {
     RECOVERABLE
 }
 
-/// The canonical text of transactions among which dependencies are formed (ours, for ACTA's twelve kinds).
+/// The canonical text of transactions between which all twelve kinds of dependency can be formed.
 pub fn contingent() -> &'static str
     ensures { result.now ≡ CONTINGENT.now }
 {
@@ -140,7 +139,7 @@ pub fn contingent() -> &'static str
 }
 
 impl Standard {
-    /// All of them, in the order in which they are told.
+    /// All of them, in the order in which they are listed.
     pub const ALL: [Standard; 5] = [
         Standard::Atomic,
         Standard::Nested,
@@ -149,7 +148,7 @@ impl Standard {
         Standard::Contingent,
     ];
 
-    /// Its name, as it stands after an `@`.
+    /// Its name, as written after an `@`.
     pub fn name(self) -> &'static str
         ensures { result.now ≡ name_of_standard self }
     {

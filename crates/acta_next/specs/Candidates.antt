@@ -1,4 +1,4 @@
--- The events that are tried of a transaction.
+-- The events that are tried for a transaction.
 use Rattle.std.specs.Prelude.{◌≡◌, ℕ, ◌+◌, ◌<◌, ◌≤◌, ◌==◌, Bool, true, false, not, List, [], ◌∷◌, ◌++◌, codes, length, nat_lt, pos, take, if◌then◌else◌, Option, Some, None}
 use Rattle.std.specs.Option.{option_map_or}
 use Rattle.acta_table.specs.declared.answer.Status.{Status}
@@ -59,7 +59,7 @@ class_ids_from n (c ∷ cs) = record { 0 = n } ∷ class_ids_from (n + 1) cs
 abbrev pub class_ids : {A : Type 0} → Parts A → List ClassId
 class_ids m = class_ids_from 0 m.classes
 
--- a begin, a spawn and a split with each of these classes; the split hands over no operation
+-- a begin, a spawn and a split with each of these classes; the split transfers no operation
 abbrev pub begins : {A : Type 0} → TxnId → List ClassId → List (Event A)
 begins t [] = []
 begins t (c ∷ cs) = event.Begin t c ∷ begins t cs
@@ -89,14 +89,14 @@ operations_from t n [] = []
 operations_from t n (ob ∷ obs) =
     event.Operate t (record { 0 = n }) (reading ob.kind) ∷ event.Operate t (record { 0 = n }) (changing ob.kind) ∷ operations_from t (n + 1) obs
 
--- how many objects, and how many other transactions are tried
+-- how many objects, and how many other transactions, are tried
 abbrev pub MOST_TRIED : ℕ
 MOST_TRIED = 12
 
 abbrev pub operations : {A : Type 0} → Parts A → TxnId → List (Event A)
 operations m t = operations_from t 0 (take MOST_TRIED m.objects)
 
--- the transactions but this one
+-- these transactions without this one
 abbrev pub is_other : TxnId → TxnId → Bool
 is_other t u = not (u.0 == t.0)
 
@@ -104,12 +104,12 @@ abbrev pub others : TxnId → List TxnId → List TxnId
 others t [] = []
 others t (u ∷ us) = if is_other t u then u ∷ others t us else others t us
 
--- a join of each
+-- a join with each
 abbrev pub joins : {A : Type 0} → TxnId → List TxnId → List (Event A)
 joins t [] = []
 joins t (u ∷ us) = event.Join t u ∷ joins t us
 
--- the events of a kind that are tried of t, where these are in progress, and u is the number for a new transaction
+-- the events of a kind that are tried for t; the list has the transactions in progress, and u is the number for a new one
 unfoldable pub events_of_kind : {A : Type 0} → Parts A → List TxnId → TxnId → TxnId → EventKind → List (Event A)
 events_of_kind m active u t Begin = []
 events_of_kind m active u t Spawn = spawns t u (class_ids m)
@@ -122,7 +122,7 @@ events_of_kind m active u t Commit = event.Commit t ∷ []
 events_of_kind m active u t Abort = event.Abort t ∷ []
 events_of_kind m active u t Permit = []
 
--- what is not tried of a kind
+-- what is not tried of a kind of event
 abbrev pub if_more : Bool → List ℕ → List (List ℕ)
 if_more true words = words ∷ []
 if_more false words = []
@@ -135,7 +135,7 @@ untried_of_kind m active t Form = event_word Form ∷ []
 untried_of_kind m active t Permit = event_word Permit ∷ []
 untried_of_kind m active t kind = []
 
--- whether the class of a transaction has the word for events of the kind
+-- whether the class of a transaction allows events of the kind
 abbrev pub class_allows : {A : Type 0} → Parts A → EventKind → Option ClassId → Bool
 class_allows m kind None = false
 class_allows m kind (Some class) = option_map_or (can_do kind) (class_at m class.0) false
@@ -147,18 +147,18 @@ may state t kind = class_allows state.model kind (class_in state t.0)
 abbrev pub kinds : List EventKind
 kinds = Commit ∷ Abort ∷ Operate ∷ Spawn ∷ Split ∷ Join ∷ Delegate ∷ Form ∷ Permit ∷ []
 
--- these events, and those of these kinds that are tried
+-- these events, followed by the events of these kinds that are tried
 abbrev pub tried_onto : {A : Type 0} → State A → List TxnId → TxnId → TxnId → List (Event A) → List EventKind → List (Event A)
 tried_onto state active u t events [] = events
 tried_onto state active u t events (k ∷ ks) =
     tried_onto state active u t (if may state t k then events ++ events_of_kind state.model active u t k else events) ks
 
--- the events that are tried of a transaction that has not ended
+-- the events that are tried for a transaction that has not ended
 abbrev pub tried_for : {A : Type 0} → Status → State A → List TxnId → TxnId → TxnId → List (Event A)
 tried_for NotBegun state active u t = begins t (class_ids state.model)
 tried_for _ state active u t = tried_onto state active u t [] kinds
 
--- the words of the kinds that the class doesn't have
+-- the words of the kinds that the class doesn't allow
 abbrev pub lacking_of : {A : Type 0} → State A → TxnId → List EventKind → List (List ℕ)
 lacking_of state t [] = []
 lacking_of state t (k ∷ ks) = (if may state t k then [] else event_word k ∷ []) ++ lacking_of state t ks

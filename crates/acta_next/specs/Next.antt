@@ -1,4 +1,4 @@
--- Which events a machine would admit next, and which it would refuse, as lines.
+-- The lines of which events a machine would admit next, and which it would refuse.
 use Rattle.std.specs.Prelude.{◌≡◌, ℕ, ◌-◌, ◌==◌, ◌&&◌, Bool, true, false, nat_le, List, [], ◌∷◌, ◌++◌, codes, decimal, length, take, if◌then◌else◌, Option, Some, None}
 use Rattle.std.specs.Option.{option_map_or}
 use Rattle.acta_table.specs.declared.answer.Refusal.{Refusal}
@@ -17,17 +17,17 @@ use Rattle.acta_machine.specs.Table.{State, debts_in, refusal_in, status_in}
 use Rattle.acta_script.specs.Writing.{event_line, status_word}
 use Rattle.acta_next.specs.Candidates.{IsFirstUnused, in_progress, kinds, lacking_for, may, tried_for, untried_of_kind}
 
--- a list with an item more, after a comma
+-- a list with one more item, after a comma
 abbrev pub with_item : List ℕ → List ℕ → List ℕ
 with_item [] item = item
 with_item (b ∷ bs) item = ((b ∷ bs) ++ codes ", ") ++ item
 
--- a list with more items: those of the things that have one
+-- a list with the items of these things, for those that have one
 abbrev pub onto_list : {X : Type 0} → (X → Option (List ℕ)) → List ℕ → List X → List ℕ
 onto_list item list [] = list
 onto_list item list (x ∷ xs) = onto_list item (option_map_or (λ words. with_item list words) (item x) list) xs
 
--- the words with a comma between each two
+-- the words separated by commas
 abbrev pub listed : List (List ℕ) → List ℕ
 listed words = onto_list (λ word. Some word) [] words
 
@@ -57,7 +57,7 @@ abbrev pub paid_note : List ℕ → List ℕ
 paid_note [] = []
 paid_note (b ∷ bs) = codes " (pays " ++ ((b ∷ bs) ++ codes ")")
 
--- an event that is admitted: its line, and the edges by which it was owed
+-- an event that is admitted: its line, and the edges of the debts that it pays
 abbrev pub admitted_words : {A : Type 0} → State A → Event A → List ℕ
 admitted_words state event =
     event_line state.model event ++ paid_note (onto_list (paid_item event) [] (debts_in state))
@@ -89,12 +89,12 @@ or_nothing (b ∷ bs) = b ∷ bs
 abbrev pub may_line : TxnId → List ℕ → List ℕ
 may_line t list = decimal t.0 ++ (codes " may: " ++ text_of (or_nothing list ∷ []))
 
--- a list after what it is, if it has an item
+-- a list after its heading, if it has an item
 abbrev pub list_line : List ℕ → List ℕ → List ℕ
 list_line front [] = []
 list_line front (b ∷ bs) = front ++ text_of ((b ∷ bs) ∷ [])
 
--- the events that are tried, each in the list to which it belongs; then what is not tried
+-- the events tried, sorted into the two lists; then what is not tried
 abbrev pub sorted : {A : Type 0} → State A → TxnId → List (Event A) → List ℕ
 sorted state t tried =
     may_line t (onto_list (admitted_item state) [] tried)
@@ -118,7 +118,7 @@ has_ended NotBegun = false
 has_ended InProgress = false
 has_ended _ = true
 
--- what a transaction can do next, where these are in progress, and u is the number for a new transaction
+-- what a transaction can do next; the list has the transactions in progress, and u is the number for a new one
 abbrev pub next_of : {A : Type 0} → State A → List TxnId → TxnId → TxnId → List ℕ
 next_of state active u t =
     if has_ended (status_in state t.0) then ended_line t (status_word (status_in state t.0)) else next_lines state active u t
@@ -127,7 +127,7 @@ abbrev pub next_of_each : {A : Type 0} → State A → List TxnId → TxnId → 
 next_of_each state active u [] = []
 next_of_each state active u (t ∷ ts) = next_of state active u t ++ next_of_each state active u ts
 
--- of how many transactions in progress it is listed, and that there are more
+-- how many transactions in progress are listed, and the line that there are more
 abbrev pub MOST_TXNS : ℕ
 MOST_TXNS = 20
 
@@ -145,7 +145,7 @@ abbrev pub next_for : {A : Type 0} → State A → List TxnId → TxnId → Opti
 next_for state active u (Some t) = next_of state active u t
 next_for state active u None = next_of_all state active u
 
--- what can happen next, of one transaction or of those in progress and a new one
+-- what can happen next, for one transaction or for those in progress and a new one
 pub record IsNext {A : Type 0} (state : State A) (t : Option TxnId) (text : List ℕ) : Type 0 where
   pub unused : TxnId
   pub first : IsFirstUnused state unused

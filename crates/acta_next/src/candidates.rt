@@ -1,4 +1,4 @@
-//! The events that are tried of a transaction.
+//! The events that are tried for a transaction.
 
 ghost use Rattle.std.specs.Prelude.{◌≡◌, ◌++◌, IfOk, OnOk, length, nat_lt, take};
 ghost use Rattle.acta_table.specs.Events.{started};
@@ -21,7 +21,7 @@ pub(crate) const KINDS: [EventKind; 9] = [
     EventKind::Permit,
 ];
 
-// How many objects, and how many other transactions are tried.
+// How many objects, and how many other transactions, are tried.
 const MOST_TRIED: usize = 12;
 
 // Whether the status is that of a transaction in progress.
@@ -73,7 +73,7 @@ fn class_ids<A: Handle>(alloc: A, model: &Model<A>) -> Result<Vec<ClassId, A>, A
     Ok(ids)
 }
 
-// Adds the begin of the transaction with each of these classes.
+// Adds a begin of the transaction with each of these classes.
 fn push_begins<A: Handle>(
     events: &mut Vec<Event<A>, A>,
     t: TxnId,
@@ -102,7 +102,7 @@ fn push_spawns<A: Handle>(
     Ok(())
 }
 
-// Adds a split with each of these classes, by which the transaction u gets no operation.
+// Adds a split of the transaction u with each of these classes, which transfers no operation.
 fn push_splits<A: Handle>(
     alloc: A,
     events: &mut Vec<Event<A>, A>,
@@ -119,14 +119,14 @@ fn push_splits<A: Handle>(
     Ok(())
 }
 
-// Whether the second transaction is another.
+// Whether the two transactions differ.
 fn is_other(t: TxnId, u: TxnId) -> bool
     ensures { result ≡ is_other t u }
 {
     u.0 != t.0
 }
 
-/// The transactions but this one.
+/// These transactions without this one.
 pub(crate) fn others<A: Handle>(
     alloc: A,
     t: TxnId,
@@ -143,7 +143,7 @@ pub(crate) fn others<A: Handle>(
     Ok(list)
 }
 
-// The first that are tried.
+// The first ones, those that are tried.
 fn first_of<T>(items: &[T]) -> &[T]
     ensures { result.now ≡ take MOST_TRIED items.now }
 {
@@ -161,7 +161,7 @@ pub(crate) fn has_more<T>(items: &[T]) -> bool
     items.len() > MOST_TRIED
 }
 
-// Adds a join of each of these.
+// Adds a join with each of these transactions.
 fn push_joins<A: Handle>(
     events: &mut Vec<Event<A>, A>,
     t: TxnId,
@@ -175,7 +175,7 @@ fn push_joins<A: Handle>(
     Ok(())
 }
 
-// An operation that reads an object of the kind.
+// An operation that reads an object of this kind.
 fn reading(kind: Kind) -> Op
     ensures { result ≡ reading kind }
 {
@@ -186,7 +186,7 @@ fn reading(kind: Kind) -> Op
     }
 }
 
-// An operation that changes one.
+// An operation that changes an object of this kind.
 fn changing(kind: Kind) -> Op
     ensures { result ≡ changing kind }
 {
@@ -213,7 +213,7 @@ fn push_operations<A: Handle>(
     Ok(())
 }
 
-// Adds the events of a kind that are tried.
+// Adds the events of this kind that are tried.
 #[tactic(auto, unfolding(crate::specs::Candidates::events_of_kind))]
 fn push_events_of_kind<A: Handle>(
     alloc: A,
@@ -246,7 +246,7 @@ fn push_events_of_kind<A: Handle>(
     }
 }
 
-// Whether the class, if there is one, has the word for events of the kind.
+// Whether there is a class, and it allows events of the kind.
 fn class_allows<A: Handle>(model: &Model<A>, kind: EventKind, class: Option<ClassId>) -> bool
     ensures { result ≡ class_allows model.now kind class }
 {
@@ -259,7 +259,7 @@ fn class_allows<A: Handle>(model: &Model<A>, kind: EventKind, class: Option<Clas
     }
 }
 
-/// Whether the class of a transaction has the word for events of the kind.
+/// Whether the class of a transaction allows events of the kind.
 #[tactic(auto, unfolding(crate::specs::Candidates::may))]
 pub(crate) fn may<A: Handle>(machine: &Machine<A>, t: TxnId, kind: EventKind) -> bool
     ensures { result ≡ may machine.now t kind }
@@ -267,7 +267,7 @@ pub(crate) fn may<A: Handle>(machine: &Machine<A>, t: TxnId, kind: EventKind) ->
     class_allows(machine.model(), kind, machine.class(t))
 }
 
-// Adds the events of these kinds that are tried of a transaction in progress.
+// Adds the events of these kinds that are tried for a transaction in progress.
 fn push_tried<A: Handle>(
     alloc: A,
     events: &mut Vec<Event<A>, A>,
@@ -287,7 +287,7 @@ fn push_tried<A: Handle>(
     Ok(())
 }
 
-/// The events that are tried of a transaction that has not ended.
+/// The events that are tried for a transaction that has not ended.
 pub(crate) fn tried_for<A: Handle>(
     alloc: A,
     machine: &Machine<A>,

@@ -1,5 +1,5 @@
-//! Which events can happen next: of a transaction, or of those in progress. A number of events is tried on a machine, and
-//! each stands in one of two lists, of those that it would admit and of those that it would refuse, as its event line.
+//! Which events can happen next, for one transaction or for all in progress. A selection of events is tried on a machine,
+//! and their event lines are listed as admitted or as refused.
 //!
 //! Functions that allocate return `Err` if memory runs out.
 #![tactic(auto)]

@@ -1,4 +1,4 @@
-//! Lists of words with commas between them, and what of a transaction is not tried.
+//! Lists of words separated by commas, and what is not tried for a transaction.
 
 ghost use Rattle.std.specs.Prelude.{◌≡◌, ◌++◌, ℕ, decimal, List, IfOk, OnOk, Some};
 ghost use Rattle.acta_next.specs.Candidates.{if_more, lacking_for, lacking_of, untried_of_kind};
@@ -22,7 +22,7 @@ pub(crate) fn push_digits<A: Allocator>(
     text.extend_from_slice(digits.format(number).as_bytes())
 }
 
-// Adds what separates an item of a list from those before it.
+// Adds the separator if the list has an item.
 fn push_gap<A: Allocator>(list: &mut Vec<u8, A>) -> Result<(), AllocError>
     ensures { (item : List ℕ) → OnOk result (list.new.items ++ item ≡ with_item list.old.items item) }
 {
@@ -40,7 +40,7 @@ pub(crate) fn push_item<A: Allocator>(list: &mut Vec<u8, A>, item: &[u8]) -> Res
     list.extend_from_slice(item)
 }
 
-// Adds an item to a list, if there is more.
+// Adds an item to a list, if `is_more`.
 fn push_if<A: Allocator>(
     list: &mut Vec<u8, A>,
     is_more: bool,
@@ -54,7 +54,7 @@ fn push_if<A: Allocator>(
     Ok(())
 }
 
-// Adds what is not tried of a kind.
+// Adds what is not tried of a kind of event.
 #[tactic(auto, unfolding(crate::specs::Candidates::untried_of_kind))]
 fn push_untried_of_kind<A: Handle>(
     alloc: A,
@@ -98,7 +98,7 @@ fn push_untried<A: Handle>(
     Ok(())
 }
 
-/// What is not tried of a transaction that has not ended.
+/// What is not tried for a transaction that has not ended.
 pub(crate) fn untried_for<A: Handle>(
     alloc: A,
     machine: &Machine<A>,
@@ -116,7 +116,7 @@ pub(crate) fn untried_for<A: Handle>(
     Ok(list)
 }
 
-// Adds the words of those of these kinds that the class doesn't have.
+// Adds the words of these kinds that the class doesn't allow.
 fn push_lacking_of<A: Handle>(
     list: &mut Vec<u8, A>,
     machine: &Machine<A>,
@@ -133,7 +133,7 @@ fn push_lacking_of<A: Handle>(
     Ok(())
 }
 
-/// The words of the kinds of event that the class of a transaction doesn't have, if it has not ended.
+/// The words of the kinds of event that the class of a transaction doesn't allow, if it has not ended.
 pub(crate) fn lacking_for<A: Handle>(
     alloc: A,
     machine: &Machine<A>,

@@ -15,7 +15,7 @@ use acta_table::{Event, Missing, Model, Owed, Rule, Status, TxnId};
 use acta_words::push_line;
 use std::alloc::{AllocError, Allocator};
 
-// The most transactions that are listed where none is named.
+// How many transactions are listed at most, if none is named.
 const MOST_TXNS: usize = 20;
 
 // The rule that refuses the event, if one does.
@@ -48,7 +48,7 @@ fn push_edge<A: Handle>(alloc: A, list: &mut Vec<u8, A>, owed: &Owed) -> Result<
     push_item(list, item.as_slice())
 }
 
-// The edges of those of the debts that the event pays.
+// The edges of the debts that the event pays.
 fn paid_list<A: Handle>(
     alloc: A,
     event: &Event<A>,
@@ -112,7 +112,7 @@ fn refused_words<A: Handle>(
     Ok(item)
 }
 
-// The events that are tried, in two lists: those that are admitted, and those that are refused.
+// The events tried, in two lists: admitted and refused.
 #[derive(Drop)]
 struct Sorted<A: Handle> {
     may: Vec<u8, A>,
@@ -120,7 +120,7 @@ struct Sorted<A: Handle> {
 }
 
 impl<A: Handle> Sorted<A> {
-    // Adds an event to the list to which it belongs.
+    // Adds an event to its list.
     fn push(
         &mut self,
         alloc: A,
@@ -144,7 +144,7 @@ impl<A: Handle> Sorted<A> {
         }
     }
 
-    // The events in two lists.
+    // Sorts the events into two lists.
     fn of(
         alloc: A,
         machine: &Machine<A>,
@@ -181,7 +181,7 @@ fn push_list<A: Allocator>(
     push_line(text, list)
 }
 
-// The list, or that it has no item.
+// The list, or the word for an empty one.
 fn or_nothing(list: &[u8]) -> &[u8]
     ensures { result.now ≡ or_nothing list.now }
 {
@@ -201,7 +201,7 @@ fn push_may<A: Allocator>(text: &mut Vec<u8, A>, t: TxnId, may: &[u8]) -> Result
     push_line(text, or_nothing(may))
 }
 
-// Adds the events that are tried, each in the list to which it belongs.
+// Adds the events tried, sorted into the two lists.
 fn push_sorted<A: Handle>(
     alloc: A,
     text: &mut Vec<u8, A>,
@@ -237,7 +237,7 @@ fn push_lines<A: Handle>(
     push_list(text, b"  its class has no: ", lacking.as_slice())
 }
 
-// What is said of a transaction that has ended, before how it has.
+// The text for an ended transaction, before how it ended.
 #[tactic(auto, unfolding(crate::specs::Next::nothing_more))]
 fn nothing_more() -> &'static [u8]
     ensures { result.now ≡ nothing_more }
@@ -245,7 +245,7 @@ fn nothing_more() -> &'static [u8]
     b" may: nothing, it is "
 }
 
-// Adds how a transaction has ended, which can do nothing more.
+// Adds that a transaction has ended and can do nothing more, and how it ended.
 fn push_ended<A: Allocator>(text: &mut Vec<u8, A>, t: TxnId, word: &[u8]) -> Result<(), AllocError>
     ensures { OnOk result (text.new.items ≡ text.old.items ++ ended_line t word.now) }
 {
@@ -296,7 +296,7 @@ fn push_next_of_each<A: Handle>(
     Ok(())
 }
 
-// The first of the transactions, which are listed.
+// The transactions that are listed: the first ones.
 fn first_listed(active: &[TxnId]) -> &[TxnId]
     ensures { result.now ≡ take MOST_TXNS active.now }
 {
@@ -307,7 +307,7 @@ fn first_listed(active: &[TxnId]) -> &[TxnId]
     }
 }
 
-// Adds that more transactions are in progress than are listed, if they are.
+// Adds that more transactions are in progress than are listed, if so.
 fn push_more<A: Allocator>(text: &mut Vec<u8, A>, count: usize) -> Result<(), AllocError>
     ensures { OnOk result (text.new.items ≡ text.old.items ++ more_line count) }
 {
@@ -351,8 +351,8 @@ fn push_next_for<A: Handle>(
     }
 }
 
-/// What can happen next, as lines: of one transaction; or of the first 20 in progress, in the order in which they
-/// began, and of a new one.
+/// The lines of what can happen next: for one transaction; or for the first 20 in progress, in the order in which they
+/// began, and for a new one.
 pub fn next_text<A: Handle>(
     alloc: A,
     machine: &Machine<A>,

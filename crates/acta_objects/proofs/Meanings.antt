@@ -1,4 +1,4 @@
--- A table of conflicts is what conflict means, where it has both laws.
+-- A table of conflicts agrees with the definition of conflict if it satisfies both laws.
 use Rattle.std.proofs.Common.{◌≡◌, refl, Bool, true, false, ◌↔◌}
 use Rattle.std.specs.Prelude.{IsTrue}
 use Rattle.acta_objects.specs.Conflicts.{Commutes, Conflict}

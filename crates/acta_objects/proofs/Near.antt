@@ -1,5 +1,4 @@
--- How far a counter can be from zero: each amount fits 32 bits, so it stays within 64 while there are fewer than 2^31
--- operations.
+-- The distance of a counter from zero: each amount fits 32 bits, so with fewer than 2^31 operations the sum fits 64.
 use Rattle.std.specs.Prelude.{ℕ, ◌*◌, ◌^◌, ℤ, pos, ◌≤ℤ◌, ◌+ℤ◌, ⊤}
 use Rattle.acta_objects.specs.declared.state.ObjectState.{ObjectState}
 use Rattle.acta_objects.specs.declared.state.ObjectState.TheVariants.{Counter}

@@ -1,4 +1,4 @@
--- Which values an object of a kind can have, and that operations of other kinds change none of them.
+-- The values that an object of a kind can have. Operations of other kinds do not change them.
 use Rattle.std.proofs.Common.{◌≡◌, false, List, refl, ap}
 use Rattle.std.specs.Prelude.{ℤ}
 use Rattle.std.proofs.lemmas.Bool.{true≢false}

@@ -1,4 +1,4 @@
--- When two operations on one object conflict: what it means, and the table of the pairs that do.
+-- Conflict of two operations on an object: its definition, and the table of conflicting pairs.
 use Rattle.std.specs.Prelude.{◌≡◌, ℕ, Bool, true, false, not, List, ℤ, pos, ⊤}
 use Rattle.std.specs.Ordering.{int_eq, int_cmp}
 use Rattle.std.specs.Option.{option_map_or}
@@ -11,7 +11,7 @@ use Rattle.acta_table.specs.declared.event.Op.TheVariants.{Read, Write, Get, Add
 use Rattle.acta_table.specs.Classes.{kind_at}
 use Rattle.acta_objects.specs.Objects.{register_step, register_return, counter_step, counter_return, set_step, set_return}
 
--- from this state both orders end equivalent, and give each operation the same return
+-- from this state both orders end in equivalent states and give each operation the same return
 pub record Commutes {S O R : Type 0} (step : S → O → S) (returned : S → O → R)
     (s : S) (p q : O) : Type 0 where
   pub state : step (step s p) q ≡ step (step s q) p
@@ -33,26 +33,26 @@ IsNumber v = ⊤
 abbrev pub IsSet : List ℤ → Type 0
 IsSet xs = IsStrictlySortedBy int_cmp xs
 
--- two operations on an object of this kind conflict
+-- the definition: two operations on an object of this kind conflict
 abbrev pub IsConflict : Kind → Op → Op → Type 0
 IsConflict (register_kind v) p q = Conflict IsNumber register_step register_return p q
 IsConflict (counter_kind v) p q = Conflict IsNumber counter_step counter_return p q
 IsConflict elements_kind p q = Conflict IsSet set_step set_return p q
 
--- whether two operations on a register conflict
+-- the table for registers
 abbrev pub register_conflicts : Op → Op → Bool
 register_conflicts Read (Write w) = true
 register_conflicts (Write v) Read = true
 register_conflicts (Write v) (Write w) = not (int_eq v w)
 register_conflicts _ _ = false
 
--- whether two operations on a counter conflict
+-- the table for counters
 abbrev pub counter_conflicts : Op → Op → Bool
 counter_conflicts Get (Add n) = not (int_eq n (pos 0))
 counter_conflicts (Add n) Get = not (int_eq n (pos 0))
 counter_conflicts _ _ = false
 
--- whether two operations on a set conflict
+-- the table for sets
 abbrev pub set_conflicts : Op → Op → Bool
 set_conflicts (Insert x) (Insert y) = int_eq x y
 set_conflicts (Insert x) (Remove y) = int_eq x y
@@ -68,12 +68,12 @@ set_conflicts (Insert x) Size = true
 set_conflicts (Remove x) Size = true
 set_conflicts _ _ = false
 
--- whether two operations on an object of this kind conflict
+-- the table for an object of this kind
 abbrev pub conflicts : Kind → Op → Op → Bool
 conflicts (register_kind v) p q = register_conflicts p q
 conflicts (counter_kind v) p q = counter_conflicts p q
 conflicts elements_kind p q = set_conflicts p q
 
--- whether two operations on the object of this number conflict
+-- whether two operations on the object with this number conflict
 abbrev pub conflict_on : {A : Type 0} → Parts A → ℕ → Op → Op → Bool
 conflict_on m object p q = option_map_or (λ kind. conflicts kind p q) (kind_at m object) false

@@ -1,4 +1,4 @@
--- What is wrong with the form of an event: the rule that it breaks, and what of the event breaks it.
+-- Faults in the form of an event: the rule that it breaks, and the part of the event that breaks it.
 use Rattle.std.specs.Prelude.{◌≡◌, ⊤, Some, None}
 use Rattle.acta_table.specs.declared.event.Event.{Event}
 use Rattle.acta_table.specs.declared.event.Event.TheVariants.{Operate}
@@ -10,7 +10,7 @@ use Rattle.acta_table.specs.Events.{class_named, object_named}
 use Rattle.acta_objects.specs.declared.forms.FormFault.{FormFault}
 use Rattle.acta_objects.specs.declared.forms.FormFault.TheVariants.{BadNumber, BadClass, BadObject, BadOperation, SameTransaction}
 
--- the rule that it breaks, with the number that the rule names
+-- the rule that the fault breaks, with the number that the rule names
 abbrev pub refusal_of : FormFault → Refusal
 refusal_of (BadNumber n) = record { rule = bad_number; by = Some n }
 refusal_of (BadClass class) = record { rule = bad_class; by = None }
@@ -23,7 +23,7 @@ abbrev pub Does : {A : Type 0} → Event A → ObjId → Op → Type 0
 Does (Operate t ob op) on done = (ob ≡ on) × (op ≡ done)
 Does _ on done = ⊥
 
--- what it speaks of, beside the number that the rule names, is what the event names
+-- the class, object or operation in the fault is the one that the event names
 abbrev pub IsNamed : {A : Type 0} → Event A → FormFault → Type 0
 IsNamed e (BadNumber n) = ⊤
 IsNamed e (BadClass class) = class_named e ≡ Some class.0

@@ -1,4 +1,4 @@
--- What fits 32 bits, as its type says in the program.
+-- Numbers that fit 32 bits by their types.
 use Rattle.std.specs.Prelude.{⊤, FitsSigned}
 use Rattle.std.specs.Int.{w32}
 use Rattle.acta_table.specs.declared.model.Kind.{Kind}
@@ -11,7 +11,7 @@ abbrev pub AmountFits : Op → Type 0
 AmountFits (Add n) = FitsSigned w32 n
 AmountFits _ = ⊤
 
--- the first value of a counter
+-- the initial value of a counter
 abbrev pub FirstFits : Kind → Type 0
 FirstFits (counter_kind v) = FitsSigned w32 v
 FirstFits _ = ⊤

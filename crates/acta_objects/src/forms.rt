@@ -1,4 +1,4 @@
-//! Whether an event has the form that the model asks for, whatever has happened.
+//! Checks the form of an event, which depends on the model alone and not on the history.
 
 ghost use Rattle.std.specs.Prelude.{◌≡◌, ◌++◌, ◌∷◌, [], filter, if◌then◌else◌, option_map, IfSome};
 ghost use Rattle.acta_table.specs.Events.{named};
@@ -12,23 +12,23 @@ use crate::state::is_of_kind;
 use acta_table::{ClassId, Event, LAST_TXN, Model, ObjId, Op, Refusal, Rule, TxnId, smallest_of};
 use std::alloc::Allocator;
 
-/// What is wrong with the form of an event.
+/// A fault in the form of an event.
 #[derive(Clone, Copy, PartialEq, Eq, Debug)]
 pub enum FormFault {
-    /// No transaction has this number, the smallest such that the event names.
+    /// The event names this number, which no transaction can have; the smallest such.
     BadNumber(u32),
     /// The model has no class at this position.
     BadClass(ClassId),
     /// The model has no object at this position.
     BadObject(ObjId),
-    /// The object is of a kind that has no such operation.
+    /// The object's kind has no such operation.
     BadOperation(ObjId, Op),
     /// The event names this transaction twice.
     SameTransaction(TxnId),
 }
 
 impl FormFault {
-    /// The rule that it breaks, with the number that the rule names.
+    /// The rule that the event breaks, with the number that the rule names.
     pub fn refusal(self) -> Refusal
         ensures { result ≡ refusal_of self }
     {
@@ -50,7 +50,7 @@ fn is_bad_number(t: TxnId) -> bool
     t.0 == 0 || t.0 > LAST_TXN
 }
 
-// The smallest number of a transaction that the event names and that none can have.
+// The smallest number named by the event that no transaction can have.
 fn smallest_bad<A: Allocator>(event: &Event<A>) -> Option<u32>
     ensures { result ≡ smallest (filter is_bad_number (named event.now)) }
 {
@@ -115,7 +115,7 @@ fn bad_operation<A: Allocator>(model: &Model<A>, event: &Event<A>) -> Option<For
     }
 }
 
-// The two, where they are one.
+// The transaction, if both are the same.
 fn one_twice(j: TxnId, i: TxnId) -> Option<FormFault>
     ensures refusal { option_map refusal_of result ≡ broken_by Rule.SameTransaction (twice_in (j.0 ∷ i.0 ∷ [])) }
     ensures one { IfSome result (λ fault. fault ≡ FormFault.SameTransaction j) }
@@ -143,8 +143,8 @@ fn same_transaction<A: Allocator>(event: &Event<A>) -> Option<FormFault>
     }
 }
 
-/// What is wrong with the form of an event, by the lowest of the rules on it: those on the numbers of transactions, on
-/// the class, the object and the operation named, and that an event names no transaction twice.
+/// The fault in the form of an event, by the lowest rule broken: bad transaction number, class, object or operation, or
+/// the same transaction named twice.
 pub fn form_fault<A: Allocator>(model: &Model<A>, event: &Event<A>) -> Option<FormFault>
     ensures refusal { option_map refusal_of result ≡ form_refusal model.now event.now }
     ensures named { IfSome result (IsNamed event.now) }
@@ -156,7 +156,7 @@ pub fn form_fault<A: Allocator>(model: &Model<A>, event: &Event<A>) -> Option<Fo
         .or_else(|| same_transaction(event))
 }
 
-/// The lowest of the rules on the form of an event that it breaks.
+/// The lowest rule on the form of an event that it breaks.
 pub fn form_refusal<A: Allocator>(model: &Model<A>, event: &Event<A>) -> Option<Refusal>
     ensures { result ≡ form_refusal model.now event.now }
 {

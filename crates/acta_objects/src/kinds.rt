@@ -11,9 +11,9 @@ use acta_table::{Op, Ret};
 use std::alloc::{AllocError, Allocator};
 use std::marker::PhantomData;
 
-/// A kind of object: its values, its operations with what they return, and which of them conflict.
-/// Whoever writes an implementation proves three laws: operations that don't conflict commute from
-/// every state, operations that conflict differ from some state, and conflict is symmetric.
+/// A kind of object: its values, its operations with their returns, and which operations conflict. Each implementation
+/// proves three laws: operations that do not conflict commute from every state, operations that conflict do not commute
+/// from some state, and conflict is symmetric.
 pub trait ObjectKind {
     type Value;
 
@@ -21,22 +21,22 @@ pub trait ObjectKind {
 
     type Ret;
 
-    // The states that the definition of conflict ranges over, and when an operation can be applied.
+    // The states that conflict ranges over, and when an operation can be applied.
     ghost is_state: { Self.Value → Type 0 };
 
     ghost can_apply: { Self.Value → Self.Op → Type 0 };
 
-    // The value after an operation, what that returns, and whether two operations conflict.
+    // The value after an operation, its return, and whether two operations conflict.
     ghost step: { Self.Value → Self.Op → Self.Value };
 
     ghost returned: { Self.Value → Self.Op → Self.Ret };
 
     ghost conflicting: { Self.Op → Self.Op → Bool };
 
-    // Whether an operation takes memory, and so may fail.
+    // Whether an operation allocates, and so may fail.
     ghost takes_memory: { Self.Value → Self.Op → Bool };
 
-    /// Does the operation. On `Err`: the value is then as it was.
+    /// Does the operation. On `Err` the value is unchanged.
     fn apply(value: &mut Self::Value, op: &Self::Op) -> Result<Self::Ret, AllocError>
         requires { can_apply value.old op.now }
         ensures answer { IfOk result (λ ret. ret ≡ returned value.old op.now) }
@@ -44,7 +44,7 @@ pub trait ObjectKind {
         ensures err { OnErr result (value.new ≡ value.old) }
         ensures sure { takes_memory value.old op.now ≡ false → IsOk result };
 
-    /// Whether the order of the two operations can tell, from some state.
+    /// Whether from some state the order of the two operations makes a difference.
     fn conflicts(p: &Self::Op, q: &Self::Op) -> bool
         ensures { result ≡ conflicting p.now q.now };
 

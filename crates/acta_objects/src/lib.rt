@@ -1,7 +1,6 @@
-//! Objects: the values that operations work on, what an operation does and returns, and which two
-//! operations conflict; and whether an event has the form that a model asks for. A conflict is
-//! defined by states and orders, after ACTA; the three kinds of object (register, counter, set) are
-//! ours, and for each the table of conflicting pairs is proved to be that definition.
+//! Objects: their values, what an operation does and returns, and which operations conflict; and whether an event has
+//! the form that its model requires. Conflict is defined by states and orders, after ACTA. For each of the three kinds
+//! (register, counter, set) the table of conflicting pairs is proved equivalent to that definition.
 //!
 //! A call that allocates returns `Err` if memory runs out.
 #![tactic(auto)]

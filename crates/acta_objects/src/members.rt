@@ -9,7 +9,7 @@ use std::alloc::{AllocError, Allocator};
 use std::collections::BTreeSet;
 use std::collections::btree_set::Iter;
 
-/// A finite set of numbers, which contracts see as its elements, ascending.
+/// A finite set of numbers. Contracts see its elements in ascending order.
 #[derive(Drop)]
 pub struct Members<A: Allocator> {
     elements: BTreeSet<i32, A>,
@@ -24,7 +24,7 @@ impl<A: Allocator> std::marker::Model for Members<A> {
 }
 
 impl<A: Allocator> Members<A> {
-    /// The empty set. Takes no memory.
+    /// The empty set. Allocates nothing.
     pub fn new(alloc: A) -> Members<A>
         ensures { result ≡ [] }
     {
@@ -33,7 +33,7 @@ impl<A: Allocator> Members<A> {
         }
     }
 
-    /// The elements, ascending, each once. Takes no memory.
+    /// Iterates over the elements, ascending, each once. Allocates nothing.
     pub fn items(&self) -> Iter<'_, i32>
         ensures elements { result ≡ self.now }
         ensures ascending { IsStrictlySortedBy int_cmp self.now }
@@ -43,7 +43,7 @@ impl<A: Allocator> Members<A> {
         self.elements.iter()
     }
 
-    /// How many elements there are.
+    /// The number of elements.
     pub fn len(&self) -> usize
         ensures len { result ≡ length self.now }
         ensures small { result < 2 ^ 63 }
@@ -58,7 +58,7 @@ impl<A: Allocator> Members<A> {
         self.elements.contains(&x)
     }
 
-    /// Takes the element out, and returns whether it was present.
+    /// Removes the element, and returns whether it was present.
     pub fn remove(&mut self, x: i32) -> bool
         ensures was { result ≡ is_member int_eq self.old x }
         ensures without { self.new ≡ remove_key (int_eq x) self.old }
@@ -75,8 +75,8 @@ impl<A: Allocator + Copy> Members<A> {
         self.items().copied().collect(alloc)
     }
 
-    /// Puts the element in, and returns whether it was absent. `Err` where it was absent and there is no
-    /// memory: the set is then as it was.
+    /// Inserts the element, and returns whether it was absent. On `Err` the set is unchanged; only an absent element
+    /// can fail.
     pub fn insert(&mut self, x: i32) -> Result<bool, AllocError>
         ensures was { IfOk result (λ added. added ≡ not (is_member int_eq self.old x)) }
         ensures with { OnOk result (self.new ≡ insert_key int_cmp self.old x) }
@@ -86,7 +86,7 @@ impl<A: Allocator + Copy> Members<A> {
         Ok(self.elements.insert(x)?)
     }
 
-    /// The same set, in memory of its own.
+    /// Returns a copy of the set.
     pub fn copy(&self) -> Result<Members<A>, AllocError>
         ensures { IfOk result (λ members. members ≡ self.now) }
     {

@@ -5,15 +5,15 @@ use crate::state::ObjectState;
 use acta_table::{Items, Kind, Op, Ret};
 use std::alloc::{AllocError, Allocator};
 
-/// What a list of operations leads to: the value after them, and what they returned, in order.
+/// The result of a list of operations: the final value, and the returns in order.
 #[derive(Drop)]
 pub struct Replayed<A: Allocator> {
     pub state: ObjectState<A>,
     pub rets: Items<Ret, A>,
 }
 
-/// Does the operations in order, from the first value of the kind. Fewer than 2^31 operations never bring a counter out
-/// of 64 bits, and no caller owes more.
+/// Does the operations in order, from the kind's initial value. With fewer than 2^31 operations a counter cannot
+/// overflow 64 bits, so callers need no other bound.
 pub fn replay<A: Allocator + Copy>(
     alloc: A,
     kind: &Kind,

@@ -21,7 +21,7 @@ pub enum ObjectState<A: Allocator> {
 }
 
 impl<A: Allocator> ObjectState<A> {
-    /// The first value of an object of this kind. Takes no memory.
+    /// The initial value of an object of this kind. Allocates nothing.
     pub fn new(alloc: A, kind: &Kind) -> ObjectState<A>
         ensures first { result ≡ first_state kind.now }
         ensures fits { FirstFits kind.now }
@@ -35,9 +35,9 @@ impl<A: Allocator> ObjectState<A> {
 }
 
 impl<A: Allocator + Copy> ObjectState<A> {
-    /// Does the operation, which changes nothing and returns `Done` where it is of another kind. `Err` if memory runs
-    /// out, which only the insertion of an absent element takes: the value is then as it was. A counter has to stay
-    /// within 64 bits; that an amount fits 32 bits, its type says.
+    /// Does the operation. An operation of another kind changes nothing and returns `Done`. Only inserting an absent
+    /// element allocates; on `Err` the value is unchanged. A counter must stay within 64 bits; the type bounds the
+    /// amount to 32 bits.
     pub fn apply(&mut self, op: &Op) -> Result<Ret, AllocError>
         requires { AmountFits op.now → StaysWithin self.old op.now }
         ensures answer { IfOk result (λ ret. ret ≡ returned self.old op.now) }
@@ -54,8 +54,8 @@ impl<A: Allocator + Copy> ObjectState<A> {
         }
     }
 
-    /// Whether two operations on an object of this kind conflict, as ACTA defines it: from some state
-    /// their order can tell, by the state they end in or by what one of them returns.
+    /// Whether two operations on an object of this kind conflict, as ACTA defines it: from some state their order
+    /// changes the final state or one of the returns.
     pub fn conflicts(kind: &Kind, p: &Op, q: &Op) -> bool
         ensures table { result ≡ table.conflicts kind.now p.now q.now }
         ensures meaning { IsTrue result ↔ IsConflict kind.now p.now q.now }
@@ -67,7 +67,7 @@ impl<A: Allocator + Copy> ObjectState<A> {
         }
     }
 
-    /// The same value, in memory of its own. `Err` if memory runs out, which only a set takes.
+    /// Returns a copy of the value. Only a set allocates.
     pub fn copy(&self) -> Result<ObjectState<A>, AllocError>
         ensures same { IfOk result (λ state. state ≡ self.now) }
         ensures sure { is_set self.now ≡ false → IsOk result }
@@ -80,7 +80,7 @@ impl<A: Allocator + Copy> ObjectState<A> {
     }
 }
 
-// Does nothing: a proof learns from the call that the amount fits 32 bits, as its type says.
+// Does nothing: the proof learns from the type that the amount fits 32 bits.
 fn read_amount(op: &Op)
     ensures { AmountFits op.now }
 {

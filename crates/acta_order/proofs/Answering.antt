@@ -81,7 +81,7 @@ all-of p g (u ∷ order) t all is =
     of here later true e any = subst (λ n. list_all p (g n) ≡ true) (eqb-true u t e) here
     of here later false e any = later any
 
--- orders of those that commit
+-- orders of the transactions that commit
 abbrev pub AreCommitted : {A : Type 0} → List (Kept A) → List ℕ → Type 0
 AreCommitted h ts = (t : ℕ) → is_in ts t ≡ is_in (commit_order h) t
 
@@ -116,7 +116,7 @@ answer-found {A} orders m h g lim ts order are those before in_order found sound
       found.same_first own plays ∙ same;
 }
 
--- those that commit, as they are taken
+-- the transactions that commit, as they are taken
 pub taken-committed : {A : Type 0} (h : List (Kept A)) (ts stack : List ℕ) → ts ≡ reverse stack → ((t : ℕ) → is_in stack t ≡ is_in (commit_order h) t) → AreCommitted h ts
 taken-committed h ts stack is each t = ap (λ (xs : List ℕ). is_in xs t) is ∙ is_in-reverse stack t ∙ each t
 

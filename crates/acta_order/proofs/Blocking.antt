@@ -15,7 +15,7 @@ use Rattle.acta_order.specs.Search.{Replaying, AreSound, after, at, held, placed
 use Rattle.acta_order.proofs.Placed.{AreWithin, is_in-append}
 use Rattle.acta_order.proofs.Playing.{flat-one, plays-both, sound-placed, values-fold}
 
--- the values on the replay are those after what is placed
+-- the values on the replay are those after the placed groups
 pub replayed-values : (A : Type 0) (kinds : List Kind) (g : ℕ → List Item) (lim : ℕ → ℕ) (ts : List ℕ) (path : Steps) (replay : Replaying) → IsReplayed A kinds g lim ts path replay → AreSound kinds g ts → fold after (values_at {A = A} kinds []) (flat_map g (placed ts path.stack)) ≡ values_of replay
 replayed-values A kinds g lim ts path replay r sound =
     values-fold {A = A} kinds [] (flat_map g (placed ts path.stack)) (sound-placed kinds g ts path.stack sound r.reached.within)

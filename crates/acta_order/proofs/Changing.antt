@@ -29,7 +29,7 @@ changed-same A b changes k before same = record {
   rest = λ j past. before.rest j (omega (arith, past));
 }
 
--- it is put behind the others
+-- it is put after the others
 pub changed-more : (A : Type 0) (b : Replaying) (changes more : List (Changed A)) (k : ℕ) (s : ObjectState A) → AreChanged A b changes k → Some s ≡ values_of b k → more ≡ changes ++ (record { place = k; state = s }) ∷ [] → AreChanged A b more (k + 1)
 changed-more A b changes more k s before is grown = record {
   done = λ j below.

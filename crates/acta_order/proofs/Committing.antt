@@ -100,7 +100,7 @@ pick-idle false c n m _ = refl
 abbrev pub AreMarked : {A : Type 0} → List ℕ → List ℕ → Kept A → ℕ → Type 0
 AreMarked counts more k n = (u : ℕ) → get_or more u 65536 ≡ (if is_event_of u k.event && get_or counts u 65536 == 65536 then n else get_or counts u 65536)
 
--- these transactions are those that commit
+-- these transactions are the ones that commit
 abbrev pub AreThose : {A : Type 0} → List ℕ → List (Kept A) → Type 0
 AreThose ts h = (t : ℕ) → is_in ts t ≡ is_in (commit_order h) t
 
@@ -193,7 +193,7 @@ distinct-front (x ∷ xs) ys d = ((or_parts (is_in xs x) (is_in ys x) (sym (is_i
 pushed : (stack : List ℕ) (t : ℕ) → reverse (t ∷ stack) ≡ reverse stack ++ t ∷ []
 pushed stack t = reverse-append (t ∷ []) stack
 
--- by the stack, whose last stands first
+-- by the stack, which has the last on top
 turned-those : {A : Type 0} (stack : List ℕ) (h : List (Kept A)) → AreThose stack h → AreThose (reverse stack) h
 turned-those stack h each t = is_in-reverse stack t ∙ each t
 

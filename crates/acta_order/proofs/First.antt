@@ -45,7 +45,7 @@ front-first v g lim ts (c ∷ below) next d w s ok plays tried =
         ap (λ (xs : List ℕ). xs ++ at ts c ∷ []) before ∙ ap (λ n. take (length below) ts ++ at ts n ∷ []) same
         ∙ sym (front-more ts (length below) (omega (arith, same, high))) ∙ ap (λ n. take n ts) more
 
--- an order that plays, found where all below were tried, is theirs where theirs plays
+-- if all positions below were tried, an order that replays is the transactions' own order, if that replays
 pub same-first : {A : Type 0} (v : Values A) (g : ℕ → List Item) (lim : ℕ → ℕ) (ts stack : List ℕ) (next : ℕ) → AreDistinct ts → AreWithin stack (length ts) → AreDistinct stack → IsOrderOf (waits lim ts) ts ts → Plays v (flat_map g ts) → IsOrderOf (waits lim ts) ts (placed ts stack) → IsTried v g lim ts stack next
     → placed ts stack ≡ ts
 same-first v g lim ts stack next d w s ok plays found tried = front ∙ of (cases_lt (length stack) (length ts))

@@ -1,4 +1,4 @@
--- The committed operations of a history by who held them to the last, one item further.
+-- The committed operations of a history by their last holders, one item further.
 use Rattle.std.proofs.Common.{arith, ◌≡◌, ℕ, ◌+◌, ◌<◌, ◌≤◌, ◌==◌, Bool, true, false, ◌&&◌, cond, List, [], ◌∷◌, ◌++◌, length, get_or, take, drop, map, filter, refl, sym, ap, ◌∙◌, subst}
 use Rattle.std.specs.Prelude.{if◌then◌else◌}
 use Rattle.std.specs.List.{filter_map, cons_option}
@@ -23,7 +23,7 @@ use Rattle.acta_axioms.proofs.Growth.{at_end, added, operations-push, number_aft
 use Rattle.acta_order.specs.declared.item.Item.{Item}
 use Rattle.acta_order.specs.Search.{item_of}
 
--- of these items the committed operations are gathered so, by who holds them, and there are so many operations
+-- the committed operations of these items are gathered by their holders; and the number of operations
 pub record AreGathered {A : Type 0} (m : Parts A) (h front : List (Kept A)) (number : ℕ) (groups : List (List Item)) : Type 0 where
   pub counted : number ≡ length (operations front)
   pub numbered : number + 1 ≡ number_after front
@@ -32,7 +32,7 @@ pub record AreGathered {A : Type 0} (m : Parts A) (h front : List (Kept A)) (num
 one-more : {X : Type 0} (xs : List X) (i : ℕ) (x : X) → i < length xs → x ≡ get_or xs i x → take (i + 1) xs ≡ take i xs ++ x ∷ []
 one-more xs i x within is = take_more xs i x within ∙ ap (λ y. take i xs ++ y ∷ []) (sym is)
 
--- an event is as many operations as it counts for
+-- the operations that an event adds are as many as it counts for
 added-long : {A : Type 0} (front : List (Kept A)) (k : Kept A) → length (added front k) ≡ cond (is_operate k.event) 1 0
 added-long {A} front k = of k.event
   where
@@ -59,7 +59,7 @@ gathered-push {A} m h front k number further groups grown before counted put = r
     test : ℕ → Operation → Bool
     test t o = is_of_group t (standing m h o)
 
--- the operation that an event is
+-- the operation of an event
 abbrev pub done_by : {A : Type 0} → List (Kept A) → Kept A → TxnId → ObjId → Op → Operation
 done_by front k u ob op = record { number = number_after front; place = length front + 1; invoker = u.0; object = ob.0; op = op; ret = k.ret }
 

@@ -1,4 +1,4 @@
--- Orders without repeats, and what a stack of positions places.
+-- Orders without repeats, and the transactions that a stack of positions places.
 use Rattle.std.proofs.Common.{◌≡◌, ℕ, zero, suc, ◌<◌, ◌==◌, Bool, true, false, ◌||◌, List, [], ◌∷◌, ◌++◌, length, reverse, map, refl, sym, ap, ◌∙◌, subst, arith}
 use Rattle.std.proofs.lemmas.Bool.{true≢false, or_parts, or_from, or_left, or_right, eqb-true, eq-eqb}
 use Rattle.std.proofs.lemmas.List.Folds.{list_any-append}
@@ -22,7 +22,7 @@ same_bool true b f g = sym (f refl)
 same_bool false true f g = g refl
 same_bool false false f g = refl
 
--- what stands behind others in a list without repeats is none of them
+-- an item after others in a list without repeats is none of them
 pub distinct-split : (xs : List ℕ) (t : ℕ) (ys : List ℕ) → AreDistinct (xs ++ t ∷ ys) → is_in xs t ≡ false
 distinct-split [] t ys d = refl
 distinct-split (x ∷ xs) t ys d =
@@ -127,14 +127,14 @@ distinct-placed ts (c ∷ below) d w s =
     distinct-push (placed ts below) (at ts c) (distinct-placed ts below d (within-below c below (length ts) w) s.1)
     (not-placed ts below c d (within-below c below (length ts) w) (within-top c below (length ts) w) s.0)
 
--- what is placed, in order
+-- the placed transactions, in order
 pub placed-map : (ts stack : List ℕ) → placed ts stack ≡ map (at ts) (reverse stack)
 placed-map ts [] = refl
 placed-map ts (c ∷ below) =
     ap (λ (xs : List ℕ). xs ++ at ts c ∷ []) (placed-map ts below)
     ∙ sym (ap (map (at ts)) (reverse-append (c ∷ []) below) ∙ map-append (at ts) (reverse below) (c ∷ []))
 
--- a position that places this
+-- a position that places this transaction
 pub record IsPlacedBy (ts stack : List ℕ) (t : ℕ) : Type 0 where
   pub pos : ℕ
   pub there : is_in stack pos ≡ true
@@ -148,7 +148,7 @@ placed-find ts (c ∷ below) t is = of (λ e. placed-find ts below t e) (is_in (
     of later true e any = let f = later e in record { pos = f.pos; there = or_right (c == f.pos) (is_in below f.pos) f.there; is = f.is }
     of later false e any = record { pos = c; there = or_left (c == c) (is_in below c) (eq-eqb c c refl); is = eqb-true (at ts c) t (sym (one-in (at ts c) t) ∙ any) }
 
--- stacks of the same positions place the same
+-- stacks of the same positions place the same transactions
 pub placed-same : (ts s z : List ℕ) → ((j : ℕ) → is_in s j ≡ is_in z j) → (t : ℕ) → is_in (placed ts s) t ≡ is_in (placed ts z) t
 placed-same ts s z same t =
     same_bool (is_in (placed ts s) t) (is_in (placed ts z) t)

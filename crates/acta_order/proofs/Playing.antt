@@ -1,4 +1,4 @@
--- Items done one after another: what they play, and the values that they leave.
+-- Items done one after another: whether they replay, and the values after them.
 use Rattle.std.proofs.Common.{◌≡◌, ℕ, ◌+◌, ◌<◌, ◌≤◌, ◌==◌, Bool, true, false, ◌&&◌, List, [], ◌∷◌, ◌++◌, length, get_or, take, drop, map, fold, Option, Some, None, refl, sym, ap, ◌∙◌, subst}
 use Rattle.std.specs.Prelude.{if◌then◌else◌, option_map, slice_get}
 use Rattle.std.specs.List.{cons_option, flat_map, list_all}
@@ -70,13 +70,13 @@ values-fold {A} kinds done (i ∷ xs) sound =
 sound-front : (p : Item → Bool) (xs : List Item) (i : ℕ) → list_all p xs ≡ true → list_all p (take i xs) ≡ true
 sound-front p xs i sound = (and_parts (list_all p (take i xs)) (list_all p (drop i xs)) (sym (list_all-append p (take i xs) (drop i xs)) ∙ ap (list_all p) (take-append-drop i xs) ∙ sound)).0
 
--- the values after those that are done are on the replay
+-- the replay has the values after the operations that are done
 played-values : (A : Type 0) (old b : Replaying) (group : List Item) (i : ℕ) → list_all (is_sound old.kinds) group ≡ true → b.kinds ≡ old.kinds → b.done ≡ old.done ++ take i group → fold after (values_of {A = A} old) (take i group) ≡ values_of b
 played-values A old b group i sound kinds done =
     values-fold {A = A} old.kinds old.done (take i group) (sound-front (is_sound old.kinds) group i sound)
     ∙ (λ x. values_at {A = A} (sym kinds x) (map held (sym done x)))
 
--- where one doesn't return what is recorded, this is the first difference
+-- if an item does not return what is recorded, it is the first difference
 pub play-differs : (A : Type 0) (old b : Replaying) (group : List Item) (i : ℕ) (d : Item) (would : Option Ret) → i < length group → list_all (is_sound old.kinds) group ≡ true → b.kinds ≡ old.kinds → b.done ≡ old.done ++ take i group → Plays (values_of {A = A} old) (take i group)
     → would ≡ due (values_of {A = A} b) (get_or group i d) → (would ≡ (get_or group i d).ret → ⊥) → HasDifference (values_of {A = A} old) group (record { place = i; would = would })
 play-differs A old b group i d would within sound kinds done plays is differs = record {
@@ -89,12 +89,12 @@ play-differs A old b group i d would within sound kinds done plays is differs = 
   };
 }
 
--- and then those that were done are taken back
+-- then these operations are taken back
 pub play-back : (old b new : Replaying) (group : List Item) (i len : ℕ) → b.kinds ≡ old.kinds → b.done ≡ old.done ++ take i group → len ≡ length old.done → new ≡ record b { done = take len b.done } → new ≡ old
 play-back old b new group i len kinds done long cut =
     cut ∙ (λ j. record { kinds = kinds j; done = (ap (take len) done ∙ take_at old.done (take i group) len (sym long)) j })
 
--- and the group doesn't play
+-- and the group doesn't replay
 pub play-stuck : {A : Type 0} (v : Values A) (group : List Item) (d : Difference) → HasDifference v group d → Plays v group → ⊥
 play-stuck {A} v group d h plays =
     let i = d.place in
@@ -106,7 +106,7 @@ play-stuck {A} v group d h plays =
     let back = plays-back v (take i group) (x ∷ drop (i + 1) group) (subst (Plays v) whole plays) in
     first.differs (first.returns ∙ subst (λ (y : Item). due (fold after v (take i group)) y ≡ y.ret) same back.0)
 
--- where it does, one more is done and plays
+-- if it does, one more is done and replays
 pub play-done : (old b new : Replaying) (group : List Item) (i : ℕ) (d : Item) → i < length group → b.done ≡ old.done ++ take i group → new ≡ record b { done = b.done ++ get_or group i d ∷ [] } → new.done ≡ old.done ++ take (i + 1) group
 play-done old b new group i d within done is =
     ap (λ (x : Replaying). x.done) is ∙ ap (λ (xs : List Item). xs ++ get_or group i d ∷ []) done ∙ append_assoc old.done (take i group) (get_or group i d ∷ [])

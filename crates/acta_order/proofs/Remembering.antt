@@ -1,4 +1,4 @@
--- What is remembered, one state more; and that packed marks tell which they were.
+-- The memory with one state more; and packed marks determine the marks.
 use Rattle.std.proofs.Common.{arith, ◌≡◌, ℕ, zero, suc, ◌+◌, ◌-◌, ◌*◌, ◌/◌, ◌<◌, ◌≤◌, Bool, true, false, List, [], ◌∷◌, ◌++◌, length, get_or, take, drop, map, fold, refl, sym, ap, ◌∙◌, subst}
 use Rattle.std.specs.List.{Contains}
 use Rattle.std.proofs.lemmas.List.{append_assoc, append-nil, map-append, length-append, length-map, length-take, length-drop, take-append-drop}
@@ -7,7 +7,7 @@ use Rattle.acta_order.specs.Memos.{Grows, IsShared}
 use Rattle.acta_order.specs.Packed.{with_bit, number_of, packed}
 use Rattle.acta_order.specs.Remembered.{Remembered, Common, common_at, state_of, remembered, AreShared}
 
--- what was shared is where it was
+-- shared parts keep their places
 
 get-before : {X : Type 0} (xs ys : List X) (i : ℕ) (d : X) → i < length xs → get_or (xs ++ ys) i d ≡ get_or xs i d
 get-before [] ys i d within = absurd (omega (arith, within))

@@ -1,4 +1,4 @@
--- What a search keeps, step by step.
+-- The invariant of a search, step by step.
 use Rattle.std.proofs.Common.{arith, ◌≡◌, ℕ, ◌+◌, ◌-◌, ◌/◌, ◌<◌, ◌≤◌, ◌==◌, ◌⊎◌, Bool, true, false, ◌||◌, List, [], ◌∷◌, ◌++◌, length, get_or, take, map, fold, min, max, Option, Some, None, refl, sym, ap, ◌∙◌, subst, inl, inr}
 use Rattle.std.specs.List.{Contains, flat_map}
 use Rattle.std.proofs.lemmas.List.Elements.{Contains-push_cases}
@@ -21,7 +21,7 @@ use Rattle.acta_order.proofs.First.{same-first}
 use Rattle.acta_order.proofs.Playing.{flat-one, sound-placed, plays-front, plays-both, values-fold}
 use Rattle.acta_order.proofs.Trying.{refuted-repeat, refuted-stuck, refuted-early, refuted-all, past-of, past-more, tried-more, tried-first, tried-push, tried-pop}
 
--- what a search keeps: what is placed is done and plays, and all before the next position is tried
+-- the invariant: the placed groups are done and replay, and all positions before the next one are tried
 pub record IsSearching (A : Type 0) (kinds : List Kind) (g : ℕ → List Item) (lim : ℕ → ℕ) (ts stack : List ℕ) (replay : Replaying) (low next : ℕ) : Type 0 where
   pub tried : IsTried (values_at {A = A} kinds []) g lim ts stack next
   pub kinds_are : replay.kinds ≡ kinds
@@ -30,7 +30,7 @@ pub record IsSearching (A : Type 0) (kinds : List Kind) (g : ℕ → List Item) 
   pub free : AreFree lim ts stack
   pub below_low : (j : ℕ) → j < low → is_in stack j ≡ true
 
--- what is known of the stack, and of the first open position
+-- the properties of the stack, and of the first open position
 pub record IsOpen (lim : ℕ → ℕ) (ts stack : List ℕ) (low open_at : ℕ) : Type 0 where
   pub distinct : AreDistinct ts
   pub in_turn : AreInTurn lim ts
@@ -42,14 +42,14 @@ pub record IsOpen (lim : ℕ → ℕ) (ts stack : List ℕ) (low open_at : ℕ) 
 all-low : (A : Type 0) (kinds : List Kind) (g : ℕ → List Item) (lim : ℕ → ℕ) (ts stack : List ℕ) (replay : Replaying) (low next open_at : ℕ) → IsSearching A kinds g lim ts stack replay low next → IsOpen lim ts stack low open_at → (j : ℕ) → j < open_at → is_in stack j ≡ true
 all-low A kinds g lim ts stack replay low next open_at s o j below = elim (cases_lt j low) [ inl lt ↦ s.below_low j lt | inr ge ↦ o.passed j ge below ]
 
--- the values on the replay are those after what is placed
+-- the values on the replay are those after the placed groups
 replay-values : (A : Type 0) (kinds : List Kind) (g : ℕ → List Item) (lim : ℕ → ℕ) (ts stack : List ℕ) (replay : Replaying) (low next : ℕ) → IsSearching A kinds g lim ts stack replay low next → AreSound kinds g ts → AreWithin stack (length ts)
     → fold after (values_at {A = A} kinds []) (flat_map g (placed ts stack)) ≡ values_of replay
 replay-values A kinds g lim ts stack replay low next s sound w =
     values-fold {A = A} kinds [] (flat_map g (placed ts stack)) (sound-placed kinds g ts stack sound w)
     ∙ (λ i. values_at {A = A} (sym s.kinds_are i) (map held (sym s.done i)))
 
--- a position that is passed over is refuted
+-- a position that can't be placed next is refuted
 refuted-passed : (A : Type 0) (kinds : List Kind) (g : ℕ → List Item) (lim : ℕ → ℕ) (ts stack : List ℕ) (replay : Replaying) (low next open_at : ℕ) → IsSearching A kinds g lim ts stack replay low next → IsOpen lim ts stack low open_at → open_at < length ts → AreSound kinds g ts
     → (j : ℕ) → j < length ts → IsPassed (values_of {A = A} replay) g lim ts stack open_at j → IsRefuted (values_at {A = A} kinds []) g lim ts (placed ts stack ++ at ts j ∷ [])
 refuted-passed A kinds g lim ts stack replay low next open_at s o within sound j there passed = of (is_in stack j) refl (cases_lt open_at (lim (at ts j)))
@@ -61,7 +61,7 @@ refuted-passed A kinds g lim ts stack replay low next open_at s o within sound j
         refuted-stuck (values_at {A = A} kinds []) g lim ts (placed ts stack) (at ts j)
         (λ p. passed e free (subst (λ (v : Values A). Plays v (g (at ts j))) (replay-values A kinds g lim ts stack replay low next s sound o.within) p))
 
--- all from the next position on, of which each from the larger of the two on is passed over
+-- all positions from the next one on, if each from the larger of the two on can't be placed next
 more-refuted : (A : Type 0) (kinds : List Kind) (g : ℕ → List Item) (lim : ℕ → ℕ) (ts stack : List ℕ) (replay : Replaying) (low next open_at from further : ℕ) → IsSearching A kinds g lim ts stack replay low next → IsOpen lim ts stack low open_at → open_at < length ts → AreSound kinds g ts → from ≡ max next open_at → further ≤ length ts
     → ((j : ℕ) → from ≤ j → j < further → IsPassed (values_of {A = A} replay) g lim ts stack open_at j) → (j : ℕ) → next ≤ j → j < further → IsRefuted (values_at {A = A} kinds []) g lim ts (placed ts stack ++ at ts j ∷ [])
 more-refuted A kinds g lim ts stack replay low next open_at from further s o within sound is few passed j low_j high_j =
@@ -83,7 +83,7 @@ search-first A kinds g lim ts stack replay none is =
       below_low = λ j below. absurd (omega (arith, below));
     })
 
--- where no position is open, the order is found
+-- if no position is open, the order is found
 pub search-found : (A : Type 0) (kinds : List Kind) (g : ℕ → List Item) (lim : ℕ → ℕ) (ts stack : List ℕ) (replay : Replaying) (low next open_at : ℕ) → IsSearching A kinds g lim ts stack replay low next → IsOpen lim ts stack low open_at → length ts ≤ open_at
     → IsFound (values_at {A = A} kinds []) g lim ts (Some stack)
 search-found A kinds g lim ts stack replay low next open_at s o past =
@@ -112,7 +112,7 @@ search-placed A kinds g lim ts stack more replay new low next open_at from c s o
     v : Values A
     v = values_at kinds []
 
--- where each next one is passed over, what is placed is refuted
+-- if no next position can be placed, the placed ones are refuted
 pub search-stuck : (A : Type 0) (kinds : List Kind) (g : ℕ → List Item) (lim : ℕ → ℕ) (ts stack : List ℕ) (replay new : Replaying) (low next open_at from : ℕ) → IsSearching A kinds g lim ts stack replay low next → IsOpen lim ts stack low open_at → AreSound kinds g ts → from ≡ max next open_at
     → open_at < length ts → IsNone A replay new g lim ts stack open_at from → IsRefuted (values_at {A = A} kinds []) g lim ts (placed ts stack)
 search-stuck A kinds g lim ts stack replay new low next open_at from s o sound is within n =
@@ -123,7 +123,7 @@ search-stuck A kinds g lim ts stack replay new low next open_at from s o sound i
 pub search-none : (A : Type 0) (kinds : List Kind) (g : ℕ → List Item) (lim : ℕ → ℕ) (ts stack : List ℕ) → IsRefuted (values_at {A = A} kinds []) g lim ts (placed ts stack) → stack ≡ [] → IsFound (values_at {A = A} kinds []) g lim ts None
 search-none A kinds g lim ts stack stuck none = λ order ok plays. stuck.none order order ok (ap (λ (x : List ℕ). placed ts x ++ order) (sym none)) plays
 
--- nothing comes from what is remembered
+-- no order continues a remembered state
 pub search-over : (A : Type 0) (kinds : List Kind) (g : ℕ → List Item) (lim : ℕ → ℕ) (ts stack : List ℕ) (replay new : Replaying) (memo : List (Remembered A)) (low next open_at from : ℕ) → IsSearching A kinds g lim ts stack replay low next → IsOpen lim ts stack low open_at → AreSound kinds g ts → from ≡ max next open_at
     → open_at < length ts → AreDead (values_at {A = A} kinds []) g lim ts memo → IsOver A memo replay new g lim ts stack open_at from → IsRefuted (values_at {A = A} kinds []) g lim ts (placed ts stack)
 search-over A kinds g lim ts stack replay new memo low next open_at from s o sound is within dead over =
@@ -138,7 +138,7 @@ search-over A kinds g lim ts stack replay new memo low next open_at from s o sou
           d.refuted
     ]
 
--- a state from which nothing comes is remembered with the others
+-- a state that no order continues is remembered with the others
 pub dead-more : (A : Type 0) (kinds : List Kind) (g : ℕ → List Item) (lim : ℕ → ℕ) (ts stack : List ℕ) (replay new : Replaying) (memo grown : List (Remembered A)) (low next open_at : ℕ) → IsSearching A kinds g lim ts stack replay low next → IsOpen lim ts stack low open_at → AreSound kinds g ts
     → AreDead (values_at {A = A} kinds []) g lim ts memo → new ≡ replay → IsRefuted (values_at {A = A} kinds []) g lim ts (placed ts stack) → IsGrown (values_at {A = A} new.kinds []) (length ts) memo grown stack (values_of {A = A} new) → AreDead (values_at {A = A} kinds []) g lim ts grown
 dead-more A kinds g lim ts stack replay new memo grown low next open_at s o sound dead same stuck more = λ e there.
@@ -178,7 +178,7 @@ dead-kept A kinds g lim ts stack replay new memo grown low next open_at s o soun
 pub dead-none : (A : Type 0) (v : Values A) (g : ℕ → List Item) (lim : ℕ → ℕ) (ts : List ℕ) (memo : List (Remembered A)) → memo ≡ [] → AreDead v g lim ts memo
 dead-none A v g lim ts memo none e there = let found = subst (λ (xs : List (Remembered A)). Contains xs e) none there in absurd (omega (arith, found.1))
 
--- what is found, or else there is none
+-- the order that is found, or that there is none
 pub found-weaker : (A : Type 0) (memo : List (Remembered A)) (old new : Replaying) (g : ℕ → List Item) (lim : ℕ → ℕ) (ts stack : List ℕ) (low from : ℕ) (o : Option ℕ) → IsFoundNext A old new g lim ts stack low from o → IsFoundOrOver A memo old new g lim ts stack low from o
 found-weaker A memo old new g lim ts stack low from (Some c) is = is
 found-weaker A memo old new g lim ts stack low from None is = record { replay = is.replay; why = inl is }
@@ -212,7 +212,7 @@ search-back A kinds g lim ts stack below replay new left low next open_at c s o 
     v : Values A
     v = values_at kinds []
 
--- what is known of the stack, from what the code's path says
+-- the properties of the stack, by the code's path
 pub is-open : (lim : ℕ → ℕ) (ts stack : List ℕ) (size low open_at : ℕ) → size ≡ length ts → AreDistinct ts → AreInTurn lim ts → ((j : ℕ) → low ≤ j → j < open_at → is_in stack j ≡ true) → AreDistinct stack → ((j : ℕ) → is_in stack j ≡ true → j < size) → (open_at < size → is_in stack open_at ≡ false)
     → IsOpen lim ts stack low open_at
 is-open lim ts stack size low open_at long d turn passed ds within out = record {
@@ -224,7 +224,7 @@ is-open lim ts stack size low open_at long d turn passed ds within out = record 
   open_there = λ w. out (omega (arith, w, long));
 }
 
--- a stack that the search comes to
+-- a stack that the search reaches
 pub search-reached : (A : Type 0) (kinds : List Kind) (g : ℕ → List Item) (lim : ℕ → ℕ) (ts stack : List ℕ) (replay : Replaying) (low next open_at c : ℕ) → IsSearching A kinds g lim ts (c ∷ stack) replay low next → AreDistinct stack → AreWithin stack (length ts) → c < length ts → is_in stack c ≡ false
     → IsReached (values_at {A = A} kinds []) g lim ts (c ∷ stack)
 search-reached A kinds g lim ts stack replay low next open_at c s d w within out = record {

@@ -1,4 +1,4 @@
--- Orders in which each transaction is placed at its time.
+-- Orders in which no transaction is placed before one that has to precede it.
 use Rattle.std.proofs.Common.{◌≡◌, ℕ, zero, suc, ◌<◌, ◌==◌, Bool, true, false, ◌||◌, List, [], ◌∷◌, ◌++◌, length, take, refl, sym, ap, ◌∙◌, subst, arith}
 use Rattle.std.specs.List.{list_any}
 use Rattle.std.proofs.lemmas.Bool.{true≢false, or_parts, or_from, or_left, or_right, eqb-true, eq-eqb}
@@ -22,7 +22,7 @@ any-in p (x ∷ xs) t there pass = of (λ later. any-in p xs t later pass) (x ==
     of later true e any = or_left (p x) (list_any p xs) (ap p (eqb-true x t e) ∙ pass)
     of later false e any = or_right (p x) (list_any p xs) (later any)
 
--- the parts of a timely list, and how they make one again
+-- the parts of a timely list, and how they form one again
 pub timely-back : (b : ℕ → ℕ → Bool) (xs ys : List ℕ) → IsTimely b (xs ++ ys) → IsTimely b ys
 timely-back b [] ys timely = timely
 timely-back b (x ∷ xs) ys timely = timely-back b xs ys timely.1
@@ -82,7 +82,7 @@ same-at ts i j d wi wj same = of (i == j) refl
     of true e = eqb-true i j e
     of false e = absurd (true≢false (sym (eq-eqb (at ts i) (at ts j) same) ∙ at-other ts i j d wi wj (λ is. true≢false (sym (eq-eqb i j is) ∙ e))))
 
--- what is placed is timely
+-- the placed transactions are timely
 pub free-of : (lim : ℕ → ℕ) (ts stack : List ℕ) (i j : ℕ) → AreFree lim ts stack → is_in stack i ≡ true → j < lim (at ts i) → is_in stack j ≡ true
 free-of lim ts [] i j free there early = absurd (true≢false (sym there))
 free-of lim ts (c ∷ below) i j free there early = of (λ any. free-of lim ts below i j free.1 any early) (c == i) refl there
@@ -108,7 +108,7 @@ free-timely ts lim (c ∷ below) d w s free =
         let early : c < lim (at ts i) = subst (λ n. c < lim n) (sym is) (let b = t.below in omega (arith, b, same)) in
         absurd (true≢false (sym (free-of lim ts below i c free.1 there early) ∙ s.0))
 
--- where each position is on the stack, it places an order
+-- if each position is on the stack, it places an order
 pub placed-order : (ts stack : List ℕ) (lim : ℕ → ℕ) → AreDistinct ts → AreWithin stack (length ts) → AreDistinct stack → AreFree lim ts stack → ((j : ℕ) → j < length ts → is_in stack j ≡ true) → IsOrderOf (waits lim ts) ts (placed ts stack)
 placed-order ts stack lim d w s free all = record {
   each = λ t. same_bool (is_in (placed ts stack) t) (is_in ts t) (placed-of ts stack t w)

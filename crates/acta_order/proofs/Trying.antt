@@ -1,4 +1,4 @@
--- What a search has tried, level by level, and what that refutes.
+-- The positions that a search has tried, level by level, and the fronts that this refutes.
 use Rattle.std.proofs.Common.{◌≡◌, ℕ, ◌+◌, ◌<◌, ◌≤◌, ◌==◌, true, false, List, [], ◌∷◌, ◌++◌, length, fold, refl, sym, ap, ◌∙◌, subst, arith, inl, inr}
 use Rattle.std.specs.List.{flat_map}
 use Rattle.std.proofs.lemmas.Bool.{true≢false, or_right, or_left, cases_lt, eq-eqb}
@@ -13,14 +13,14 @@ use Rattle.acta_order.proofs.Placed.{is_in-append, distinct-split, find-at, at-i
 use Rattle.acta_order.proofs.Timely.{timely-back, take-in, any-in, or_second}
 use Rattle.acta_order.proofs.Playing.{plays-front, plays-back}
 
--- one that stands there already is no next one
+-- a transaction that is already placed is not a next one
 pub refuted-repeat : {A : Type 0} (v : Values A) (g : ℕ → List Item) (lim : ℕ → ℕ) (ts front : List ℕ) (t : ℕ) → is_in front t ≡ true → IsRefuted v g lim ts (front ++ t ∷ [])
 refuted-repeat v g lim ts front t there = record {
   none = λ order rest ok is plays.
       true≢false (sym there ∙ distinct-split front t rest (subst AreDistinct (is ∙ append_assoc front (t ∷ []) rest) ok.once));
 }
 
--- nor is one whose group doesn't play
+-- nor is one whose group doesn't replay
 pub refuted-stuck : {A : Type 0} (v : Values A) (g : ℕ → List Item) (lim : ℕ → ℕ) (ts front : List ℕ) (t : ℕ) → (Plays (fold after v (flat_map g front)) (g t) → ⊥) → IsRefuted v g lim ts (front ++ t ∷ [])
 refuted-stuck v g lim ts front t stuck = record {
   none = λ order rest ok is plays.
@@ -28,7 +28,7 @@ refuted-stuck v g lim ts front t stuck = record {
       stuck (plays-front (fold after v (flat_map g front)) (g t) (flat_map g rest) (plays-back v (flat_map g front) (g t ++ flat_map g rest) whole));
 }
 
--- nor is one before which an open one has to be placed
+-- nor is one that an open one has to precede
 pub refuted-early : {A : Type 0} (v : Values A) (g : ℕ → List Item) (lim : ℕ → ℕ) (ts stack : List ℕ) (low j : ℕ) → AreDistinct ts → AreWithin stack (length ts) → AreInTurn lim ts → low < length ts → j < length ts → is_in stack low ≡ false → low < lim (at ts j)
     → IsRefuted v g lim ts (placed ts stack ++ at ts j ∷ [])
 refuted-early v g lim ts stack low j d w turn within there out early = record {
@@ -43,7 +43,7 @@ refuted-early v g lim ts stack low j d w turn within there out early = record {
       true≢false (sym (any-in (λ t. waits lim ts t (at ts j)) rest (at ts low) in_rest (take-in ts (lim (at ts j)) low within early)) ∙ timely.0);
 }
 
--- where all next ones are refuted, and one is open, so is what is placed
+-- if all next ones are refuted, and one is open, the placed ones are refuted
 pub refuted-all : {A : Type 0} (v : Values A) (g : ℕ → List Item) (lim : ℕ → ℕ) (ts stack : List ℕ) (low : ℕ) → AreDistinct ts → AreWithin stack (length ts) → low < length ts → is_in stack low ≡ false → IsPast v g lim ts stack (length ts) → IsRefuted v g lim ts (placed ts stack)
 refuted-all {A} v g lim ts stack low d w within out past = record { none = of }
   where

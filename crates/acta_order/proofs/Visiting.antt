@@ -1,4 +1,4 @@
--- Stacks that a search comes to, each once.
+-- Stacks that a search reaches, each once.
 use Rattle.std.proofs.Common.{◌≡◌, ℕ, ◌+◌, ◌<◌, ◌≤◌, ◌⊎◌, List, [], ◌∷◌, ◌++◌, length, get_or, drop, refl, sym, ap, ◌∙◌, subst, arith, inl, inr}
 use Rattle.std.specs.Prelude.{⊤}
 use Rattle.std.proofs.lemmas.Bool.{true≢false}
@@ -8,14 +8,14 @@ use Rattle.acta_order.specs.declared.item.Item.{Item}
 use Rattle.acta_order.specs.Faults.{IsReached, AreReached, HasReached}
 use Rattle.acta_order.specs.Orders.{AreOthers, AreDifferent}
 
--- a stack that goes on from s by a position below next
+-- a stack that continues s by a position below next
 pub record IsUnder (s : List ℕ) (next : ℕ) (f : List ℕ) : Type 0 where
   pub pos : ℕ
   pub rest : List ℕ
   pub below : pos < next
   pub is : f ≡ rest ++ pos ∷ s
 
--- a stack that a search comes to before it goes on from s with position next
+-- a stack that a search reaches before it continues s with position next
 abbrev pub Seen : List ℕ → ℕ → List ℕ → Type 0
 Seen [] next f = (f ≡ []) ⊎ IsUnder [] next f
 Seen (c ∷ below) next f = (f ≡ c ∷ below) ⊎ (IsUnder (c ∷ below) next f ⊎ Seen below c f)
@@ -48,7 +48,7 @@ seen-pop c below next f (inr (inl u)) = under-seen below (c + 1) f (record {
 })
 seen-pop c below next f (inr (inr before)) = seen-more below c (c + 1) f (omega arith) before
 
--- what stands before the same end
+-- the item before the same end
 same-end : (s pre rest : List ℕ) (c j : ℕ) → pre ++ c ∷ s ≡ rest ++ j ∷ s → c ≡ j
 same-end s [] [] c j is = ap (λ (xs : List ℕ). get_or xs 0 0) is
 same-end s [] (y ∷ rest) c j is = let e = ap length is in let m = length-append rest (j ∷ s) in absurd (omega (arith, e, m))
@@ -86,7 +86,7 @@ all-others : (s : List ℕ) (c next : ℕ) (fs : List (List ℕ)) → next ≤ c
 all-others s c next [] low seen = tt
 all-others s c next (f ∷ fs) low seen = (λ is. not-seen s [] c next low (subst (Seen s next) (sym is) seen.0), all-others s c next fs low seen.1)
 
--- what was come to so far
+-- the stacks reached so far
 pub record AreVisited {A : Type 0} (values : Values A) (group : ℕ → List Item) (lim : ℕ → ℕ) (ts s : List ℕ) (next states : ℕ) : Type 0 where
   pub stacks : List (List ℕ)
   pub many : length stacks ≡ states + 1

@@ -1,4 +1,4 @@
--- What a walk has passed, one item further.
+-- The items that a walk has passed, one item further.
 use Rattle.std.proofs.Common.{arith, ◌≡◌, ℕ, zero, suc, ◌+◌, ◌<◌, List, [], ◌∷◌, ◌++◌, length, take, drop, sym, ap, ◌∙◌}
 use Rattle.std.proofs.lemmas.List.{append-nil, append_assoc}
 use Rattle.acta_table.specs.declared.event.Kept.{Kept}

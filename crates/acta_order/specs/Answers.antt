@@ -1,4 +1,4 @@
--- What a search answers: a serial order, or why there is none.
+-- The answers of a search: a serial order, or why there is none.
 use Rattle.std.specs.Prelude.{◌≡◌, ℕ, true, false, List, [], ◌∷◌, ◌++◌, map, take, slice_get, Some, All}
 use Rattle.acta_table.specs.declared.event.Kept.{Kept}
 use Rattle.acta_table.specs.declared.event.OpNo.{OpNo}
@@ -14,7 +14,7 @@ use Rattle.acta_order.specs.declared.order.Order.TheVariants.{Found, NoOrder}
 use Rattle.acta_order.specs.declared.orders.Orders.{Orders}
 use Rattle.acta_order.specs.Orders.{is_in, is_before, can_replay, groups_in, numbers_of, txns_of, IsOrder, IsSerial, IsState, Replays}
 
--- the operation of this number is one of a committed transaction, and can't be replayed
+-- this operation of a committed transaction can't be replayed
 pub record IsUnsound {A : Type 0} (m : Parts A) (h : List (Kept A)) (op : OpNo) : Type 0 where
   pub txn : ℕ
   pub committed : is_in (commit_order h) txn ≡ true
@@ -24,17 +24,17 @@ pub record IsUnsound {A : Type 0} (m : Parts A) (h : List (Kept A)) (op : OpNo) 
   pub number : op.0 ≡ o.number
   pub fails : can_replay m o ≡ false
 
--- a committed transaction that isn't among these, while each that has to be placed before it is
+-- a committed transaction that is not in the front, while all that have to be placed before it are
 pub record CanBeNext {A : Type 0} (orders : Orders) (h : List (Kept A)) (front : List ℕ) (t : ℕ) : Type 0 where
   pub committed : is_in (commit_order h) t ≡ true
   pub open_there : is_in front t ≡ false
   pub free : (u : ℕ) → is_before orders h u t ≡ true → is_in front u ≡ true
 
--- the operations that are done before the one at this place of the group of t, where t is placed next after these
+-- the operations replayed before the one at this place of t's group, if t is placed next after the front
 abbrev pub done_before : {A : Type 0} → Parts A → List (Kept A) → List ℕ → ℕ → ℕ → List Operation
 done_before m h front t place = groups_in m h front ++ take place (group_of m h t)
 
--- why a transaction can't be placed next after these: up to this operation, replayed, each returns what the history
+-- why a transaction can't be placed next after the front: replayed, each operation up to this one returns what the history
 -- records, and this one would return something else
 pub record IsBlock {A : Type 0} (m : Parts A) (h : List (Kept A)) (front : List ℕ) (b : Block) : Type 0 where
   pub place : ℕ
@@ -45,7 +45,7 @@ pub record IsBlock {A : Type 0} (m : Parts A) (h : List (Kept A)) (front : List 
   pub returns : replayed m (done_before m h front b.txn.0 place ++ o ∷ []) ≡ map (λ q. q.ret) (done_before m h front b.txn.0 place) ++ b.would ∷ []
   pub differs : b.would ≡ o.ret → ⊥
 
--- a front that an order may begin with, and a block for each transaction that could be placed next, and for no other
+-- a front of an order, with a block for exactly the transactions that could be placed next
 pub record IsDeadEnd {A : Type 0} (orders : Orders) (m : Parts A) (h : List (Kept A)) (d : DeadEnd A) : Type 0 where
   pub front : IsState orders m h (numbers_of d.front)
   pub next : All (λ b. CanBeNext orders h (numbers_of d.front) b.txn.0) d.blocks

@@ -1,4 +1,4 @@
--- Groups that can't be done next, and items that can't be replayed: words of the search's own contracts.
+-- Groups that can't be done next, and items that can't be replayed: definitions for internal contracts.
 use Rattle.std.specs.Prelude.{◌≡◌, ℕ, ◌<◌, ◌≤◌, true, false, List, [], ◌∷◌, ◌++◌, flat_map, fold, take, length, slice_get, Option, Some, None, All}
 use Rattle.acta_table.specs.declared.event.OpNo.{OpNo}
 use Rattle.acta_table.specs.declared.event.Ret.{Ret}
@@ -13,7 +13,7 @@ use Rattle.acta_order.specs.Orders.{is_in, numbers_of, txns_of}
 use Rattle.acta_order.specs.Paths.{Steps}
 use Rattle.acta_order.specs.Search.{Replaying, after, at, due, is_sound, placed, Plays, values_at, values_of}
 
--- the item at this place of a group is the first that would return something else than is recorded
+-- the item at this place of a group is the first that would return something else than recorded
 pub record IsFirstDifference {A : Type 0} (values : Values A) (group : List Item) (place : ℕ) (item : Item) (would : Option Ret) : Type 0 where
   pub there : slice_get group place ≡ Some item
   pub front : Plays values (take place group)
@@ -24,7 +24,7 @@ pub record HasDifference {A : Type 0} (values : Values A) (group : List Item) (d
   pub item : Item
   pub first : IsFirstDifference values group d.place item d.would
 
--- the group is done; or else nothing is, because of this difference
+-- the whole group is done; or nothing is, because of this difference
 abbrev pub IsPlayed : (A : Type 0) → Replaying → Replaying → List Item → Option Difference → Type 0
 IsPlayed A old new group None = (new ≡ record old { done = old.done ++ group }) × Plays (values_of {A = A} old) group
 IsPlayed A old new group (Some d) = (new ≡ old) × HasDifference (values_of {A = A} old) group d
@@ -38,7 +38,7 @@ pub record IsBlocked {A : Type 0} (values : Values A) (group : List Item) (t : �
   pub op : b.op ≡ item.number
   pub returned : b.returned ≡ item.ret
 
--- a position that could be placed next, where all below `low` are placed
+-- a position that could be placed next; all positions below `low` are placed
 pub record IsFree (lim : ℕ → ℕ) (ts stack : List ℕ) (low c : ℕ) : Type 0 where
   pub within : c < length ts
   pub open_there : is_in stack c ≡ false
@@ -58,7 +58,7 @@ pub record AreBlocked {A : Type 0} (values : Values A) (group : ℕ → List Ite
   pub blocks_are : All (IsBlockedAt values group lim ts stack low) blocks
   pub each : (j : ℕ) → IsFree lim ts stack low j → is_in (txns_of blocks) (at ts j) ≡ true
 
--- one position more is placed, and its group is done
+-- one more position is placed, and its group is done
 pub record IsPlaced (A : Type 0) (path more : Steps) (old new : Replaying) (group : ℕ → List Item) (lim : ℕ → ℕ) (ts : List ℕ) (c : ℕ) : Type 0 where
   pub within : c < length ts
   pub open_there : is_in path.stack c ≡ false
@@ -67,21 +67,21 @@ pub record IsPlaced (A : Type 0) (path more : Steps) (old new : Replaying) (grou
   pub path_is : more ≡ record path { stack = c ∷ path.stack }
   pub replay_is : new ≡ record old { done = old.done ++ group (at ts c) }
 
--- what is placed is done, and the search could place it so
+-- the groups of the placed positions are done, and the search could place them in this order
 pub record IsReplayed (A : Type 0) (kinds : List Kind) (group : ℕ → List Item) (lim : ℕ → ℕ) (ts : List ℕ) (path : Steps) (replay : Replaying) : Type 0 where
   pub size : path.size ≡ length ts
   pub kinds_are : replay.kinds ≡ kinds
   pub done : replay.done ≡ flat_map group (placed ts path.stack)
   pub reached : IsReached (values_at {A = A} kinds []) group lim ts path.stack
 
--- the search can come to this front, and not go on
+-- the search can reach this front, and can't place any position after it
 pub record IsStuck {A : Type 0} (values : Values A) (group : ℕ → List Item) (lim : ℕ → ℕ) (ts : List ℕ) (d : DeadEnd A) : Type 0 where
   pub stack : List ℕ
   pub reached : IsReached values group lim ts stack
   pub front : numbers_of d.front ≡ placed ts stack
   pub blocked : AreBlocked (fold after values (flat_map group (placed ts stack))) group lim ts stack d.blocks
 
--- one of these items can't be replayed: the one of this number
+-- the item of this number is among these, and can't be replayed
 pub record HasUnsound (kinds : List Kind) (items : List Item) (number : OpNo) : Type 0 where
   pub place : ℕ
   pub item : Item

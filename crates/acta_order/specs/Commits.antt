@@ -1,4 +1,4 @@
--- What is gathered of the commits of a history: words of the search's own contracts.
+-- What a walk over a history's commits collects: definitions for internal contracts.
 use Rattle.std.specs.Prelude.{◌≡◌, ℕ, ◌≤◌, Bool, true, false, List, take, length, get_or, reverse}
 use Rattle.std.specs.List.{list_any}
 use Rattle.acta_table.specs.declared.event.Kept.{Kept}
@@ -9,7 +9,7 @@ use Rattle.acta_order.specs.Orders.{is_in, is_event_of, before_first, AreDistinc
 abbrev pub has_event : {A : Type 0} → ℕ → List (Kept A) → Bool
 has_event t h = list_any (λ k. is_event_of t k.event) h
 
--- by the counts, the first transactions that commit are those that commit before the first event of u
+-- by the counts, the transactions that commit before the first event of u are the first to commit
 pub record AreNoted {A : Type 0} (counts : List ℕ) (h : List (Kept A)) (ts : List ℕ) : Type 0 where
   pub long : length counts ≡ 65536
   pub later : (u : ℕ) → has_event u h ≡ true → get_or counts u 65536 ≤ length ts

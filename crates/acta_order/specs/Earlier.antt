@@ -1,16 +1,16 @@
--- How many transactions have to be placed before another: words of the search's own contracts.
+-- How many transactions have to be placed before another: definitions for internal contracts.
 use Rattle.std.specs.Prelude.{ℕ, Bool, List, take, get_or}
 use Rattle.acta_order.specs.declared.orders.Orders.{Orders}
 use Rattle.acta_order.specs.declared.orders.Orders.TheVariants.{All, RealTime}
 use Rattle.acta_order.specs.Orders.{is_in}
 
--- which orders are asked for; and by the number of a transaction how many had committed before its first event, or
--- 65,536 where it has no event so far
+-- the orders allowed; and for each transaction number, how many transactions had committed before its first event, or 65,536
+-- if it has no event so far
 pub record Counted : Type 0 where
   pub orders : Orders
   pub counts : List ℕ
 
--- how many transactions have to be placed before t: so many of those that commit, the first to commit first
+-- how many transactions have to be placed before t: the first so many to commit
 abbrev pub limit_in : Orders → List ℕ → ℕ → ℕ
 limit_in All counts t = 0
 limit_in RealTime counts t = get_or counts t 65536

@@ -1,4 +1,4 @@
--- What a search comes to, and when it gives up: words of the search's own contracts.
+-- Which states a search reaches, and when it gives up: definitions for internal contracts.
 use Rattle.std.specs.Prelude.{◌≡◌, ℕ, ◌+◌, ◌<◌, ◌≤◌, false, true, ⊤, List, [], ◌∷◌, length, flat_map}
 use Rattle.acta_table.specs.declared.limits.TheConstants.{MOST_EVENTS}
 use Rattle.acta_axioms.specs.Serial.{Values}
@@ -9,7 +9,7 @@ use Rattle.acta_order.specs.Memos.{AreFree}
 use Rattle.acta_order.specs.Orders.{is_in, AreDistinct, AreDifferent}
 use Rattle.acta_order.specs.Search.{Replaying, at, placed, Plays}
 
--- a group that is not done fits on the replay
+-- the replay has room for every group that is not done
 abbrev pub HasRoom : Replaying → (ℕ → List Item) → List ℕ → List ℕ → Type 0
 HasRoom replay group ts stack = (j : ℕ) → j < length ts → is_in stack j ≡ false → length replay.done + length (group (at ts j)) ≤ MOST_EVENTS
 
@@ -17,7 +17,7 @@ HasRoom replay group ts stack = (j : ℕ) → j < length ts → is_in stack j �
 abbrev pub AreFew : (ℕ → List Item) → Type 0
 AreFew group = (order : List ℕ) → AreDistinct order → length (flat_map group order) ≤ MOST_EVENTS
 
--- a stack of positions that the search comes to
+-- a stack of positions that the search can reach
 pub record IsReached {A : Type 0} (values : Values A) (group : ℕ → List Item) (lim : ℕ → ℕ) (ts stack : List ℕ) : Type 0 where
   pub distinct : AreDistinct stack
   pub within : (j : ℕ) → is_in stack j ≡ true → j < length ts
@@ -28,7 +28,7 @@ abbrev pub AreReached : {A : Type 0} → Values A → (ℕ → List Item) → (�
 AreReached values group lim ts [] = ⊤
 AreReached values group lim ts (stack ∷ stacks) = IsReached values group lim ts stack × AreReached values group lim ts stacks
 
--- more than so many stacks are reached
+-- more than this many stacks can be reached
 pub record HasReached {A : Type 0} (values : Values A) (group : ℕ → List Item) (lim : ℕ → ℕ) (ts : List ℕ) (most : ℕ) : Type 0 where
   pub stacks : List (List ℕ)
   pub more : most < length stacks

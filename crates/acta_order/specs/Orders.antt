@@ -17,11 +17,11 @@ use Rattle.acta_order.specs.declared.fault.OrderFault.TheVariants.{TooMany, TooL
 use Rattle.acta_order.specs.declared.orders.Orders.{Orders}
 use Rattle.acta_order.specs.declared.orders.Orders.TheVariants.{All, RealTime}
 
--- whether t is among these
+-- whether t is in the list
 abbrev pub is_in : List ℕ → ℕ → Bool
 is_in ts t = list_any (λ u. u == t) ts
 
--- each of these occurs once
+-- no number occurs twice
 abbrev pub AreDistinct : List ℕ → Type 0
 AreDistinct [] = ⊤
 AreDistinct (t ∷ ts) = (is_in ts t ≡ false) × AreDistinct ts
@@ -34,7 +34,7 @@ is_event_of t event = option_map_or (λ u. u == t) (started event) false || opti
 abbrev pub before_first : {A : Type 0} → ℕ → List (Kept A) → List (Kept A)
 before_first t h = take_while (λ k. not (is_event_of t k.event)) h
 
--- whether t has to be placed before u: in real time, where t commits before the first event of u
+-- whether t has to be placed before u: in real-time orders, if t commits before the first event of u
 abbrev pub is_before : {A : Type 0} → Orders → List (Kept A) → ℕ → ℕ → Bool
 is_before All h t u = false
 is_before RealTime h t u = is_in (commit_order (before_first u h)) t
@@ -44,13 +44,13 @@ abbrev pub IsTimely : (ℕ → ℕ → Bool) → List ℕ → Type 0
 IsTimely before [] = ⊤
 IsTimely before (u ∷ us) = (list_any (λ t. before t u) us ≡ false) × IsTimely before us
 
--- an order of these transactions: each of them once, no other, and each at its time
+-- an order of these transactions: each exactly once, and no transaction before one that has to precede it
 pub record IsOrderOf (before : ℕ → ℕ → Bool) (ts order : List ℕ) : Type 0 where
   pub each : (t : ℕ) → is_in order t ≡ is_in ts t
   pub once : AreDistinct order
   pub timely : IsTimely before order
 
--- an order of the committed transactions of a history, among the orders that are asked for
+-- an order of the committed transactions of a history, among the orders allowed
 abbrev pub IsOrder : {A : Type 0} → Orders → List (Kept A) → List ℕ → Type 0
 IsOrder orders h order = IsOrderOf (is_before orders h) (commit_order h) order
 
@@ -58,7 +58,7 @@ IsOrder orders h order = IsOrderOf (is_before orders h) (commit_order h) order
 abbrev pub groups_in : {A : Type 0} → Parts A → List (Kept A) → List ℕ → List Operation
 groups_in m h order = flat_map (group_of m h) order
 
--- whether an operation can be replayed: it is on an object of the model, of its object's kind, and has a return
+-- whether an operation can be replayed: its object is in the model and has its kind, and its return is recorded
 abbrev pub can_replay : {A : Type 0} → Parts A → Operation → Bool
 can_replay m o = is_well_formed m o.object o.op && is_some o.ret
 
@@ -75,24 +75,24 @@ numbers_of ts = map (λ t. t.0) ts
 abbrev pub txns_of : List Block → List ℕ
 txns_of blocks = map (λ b. b.txn.0) blocks
 
--- the order is serial, and is the order of the commits if that is serial
+-- the order is serial; it is the order of the commits if that is serial
 pub record IsSerial {A : Type 0} (orders : Orders) (m : Parts A) (h : List (Kept A)) (order : List ℕ) : Type 0 where
   pub order_is : IsOrder orders h order
   pub replays : Replays m h order
   pub commits_first : IsOrder orders h (commit_order h) → Replays m h (commit_order h) → order ≡ commit_order h
 
--- the list is none of these
+-- the list differs from all of these
 abbrev pub AreOthers : List ℕ → List (List ℕ) → Type 0
 AreOthers front [] = ⊤
 AreOthers front (other ∷ others) = (front ≡ other → ⊥) × AreOthers front others
 
--- each of these lists occurs once
+-- no list occurs twice
 abbrev pub AreDifferent : List (List ℕ) → Type 0
 AreDifferent [] = ⊤
 AreDifferent (front ∷ fronts) = AreOthers front fronts × AreDifferent fronts
 
--- committed transactions that an order may begin with: each once, at its time, and replayed each operation returns what
--- the history records
+-- a front of an order, of committed transactions: each once, none before one that has to precede it, and replayed each
+-- operation returns what the history records
 pub record IsState {A : Type 0} (orders : Orders) (m : Parts A) (h : List (Kept A)) (front : List ℕ) : Type 0 where
   pub committed : (t : ℕ) → is_in front t ≡ true → is_in (commit_order h) t ≡ true
   pub once : AreDistinct front
@@ -103,7 +103,7 @@ abbrev pub AreStates : {A : Type 0} → Orders → Parts A → List (Kept A) →
 AreStates orders m h [] = ⊤
 AreStates orders m h (front ∷ fronts) = IsState orders m h front × AreStates orders m h fronts
 
--- there are more than so many states
+-- there are more than this many states
 pub record HasMoreStates {A : Type 0} (orders : Orders) (m : Parts A) (h : List (Kept A)) (most : ℕ) : Type 0 where
   pub fronts : List (List ℕ)
   pub more : most < length fronts

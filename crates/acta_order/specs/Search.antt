@@ -1,4 +1,4 @@
--- Words of the search's own contracts: nothing here is needed to read a promise.
+-- Definitions for internal contracts of the search; no public promise needs them.
 use Rattle.std.specs.Prelude.{◌≡◌, ℕ, ◌<◌, ◌≤◌, Bool, true, false, ◌&&◌, ◌==◌, ⊤, List, [], ◌∷◌, ◌++◌, map, flat_map, get_or, slice_get, length, if◌then◌else◌, Option, Some, None, is_some, option_map}
 use Rattle.std.specs.List.{list_all}
 use Rattle.std.specs.Option.{option_map_or}
@@ -46,7 +46,7 @@ after values i object = if i.ob.0 == object then option_map (λ s. step s i.op) 
 abbrev pub due : {A : Type 0} → Values A → Item → Option Ret
 due values i = option_map (λ s. returned s i.op) (values i.ob.0)
 
--- done in order from these values, each item returns what is recorded
+-- done in order from these values, each item has its recorded return
 abbrev pub Plays : {A : Type 0} → Values A → List Item → Type 0
 Plays values [] = ⊤
 Plays values (i ∷ is) = (due values i ≡ i.ret) × Plays (after values i) is
@@ -55,16 +55,16 @@ Plays values (i ∷ is) = (due values i ≡ i.ret) × Plays (after values i) is
 abbrev pub at : List ℕ → ℕ → ℕ
 at ts j = get_or ts j 0
 
--- the transactions placed by a stack of positions, the last of which stands first
+-- the transactions placed by a stack of positions, which has the last on top
 abbrev pub placed : List ℕ → List ℕ → List ℕ
 placed ts [] = []
 placed ts (c ∷ below) = placed ts below ++ at ts c ∷ []
 
--- a position is passed over: it is placed, or an earlier transaction is not, or its group doesn't play
+-- a position that can't be placed next: it is placed, an earlier transaction is not, or its group doesn't replay
 abbrev pub IsPassed : {A : Type 0} → Values A → (ℕ → List Item) → (ℕ → ℕ) → List ℕ → List ℕ → ℕ → ℕ → Type 0
 IsPassed values group lim ts stack low j = is_in stack j ≡ false → lim (at ts j) ≤ low → Plays values (group (at ts j)) → ⊥
 
--- the first position from this one on that isn't passed over: its group is done; or else there is none
+-- the first position from this one on that can be placed next, and its group is done; or there is none
 pub record IsNext (A : Type 0) (old new : Replaying) (group : ℕ → List Item) (lim : ℕ → ℕ) (ts stack : List ℕ) (low from c : ℕ) : Type 0 where
   pub from_on : from ≤ c
   pub high : c < length ts
@@ -82,20 +82,20 @@ abbrev pub IsFoundNext : (A : Type 0) → Replaying → Replaying → (ℕ → L
 IsFoundNext A old new group lim ts stack low from (Some c) = IsNext A old new group lim ts stack low from c
 IsFoundNext A old new group lim ts stack low from None = IsNone A old new group lim ts stack low from
 
--- no order of these that begins so plays
+-- no order of these with this front replays
 pub record IsRefuted {A : Type 0} (values : Values A) (group : ℕ → List Item) (lim : ℕ → ℕ) (ts front : List ℕ) : Type 0 where
   pub none : (order rest : List ℕ) → IsOrderOf (waits lim ts) ts order → order ≡ front ++ rest → Plays values (flat_map group order) → ⊥
 
--- all below this position are refuted as the next
+-- no position below this one can be next
 abbrev pub IsPast : {A : Type 0} → Values A → (ℕ → List Item) → (ℕ → ℕ) → List ℕ → List ℕ → ℕ → Type 0
 IsPast values group lim ts stack next = (j : ℕ) → j < next → IsRefuted values group lim ts (placed ts stack ++ at ts j ∷ [])
 
--- what has been tried: at each level all below the position that was taken there
+-- at each level, all positions below the one taken there have been refuted
 abbrev pub IsTried : {A : Type 0} → Values A → (ℕ → List Item) → (ℕ → ℕ) → List ℕ → List ℕ → ℕ → Type 0
 IsTried values group lim ts [] next = IsPast values group lim ts [] next
 IsTried values group lim ts (c ∷ below) next = IsPast values group lim ts (c ∷ below) next × IsTried values group lim ts below c
 
--- each group of these can be replayed
+-- every group of these can be replayed
 abbrev pub AreSound : List Kind → (ℕ → List Item) → List ℕ → Type 0
 AreSound kinds group ts = (j : ℕ) → j < length ts → list_all (is_sound kinds) (group (at ts j)) ≡ true
 
@@ -103,13 +103,13 @@ AreSound kinds group ts = (j : ℕ) → j < length ts → list_all (is_sound kin
 abbrev pub AreInTurn : (ℕ → ℕ) → List ℕ → Type 0
 AreInTurn lim ts = (j : ℕ) → j < length ts → lim (at ts j) ≤ j
 
--- an order that plays, and is these in their own order, where that plays
+-- an order that replays; it is the transactions' own order if that replays
 pub record IsFoundOrder {A : Type 0} (values : Values A) (group : ℕ → List Item) (lim : ℕ → ℕ) (ts order : List ℕ) : Type 0 where
   pub order_is : IsOrderOf (waits lim ts) ts order
   pub plays : Plays values (flat_map group order)
   pub same_first : IsOrderOf (waits lim ts) ts ts → Plays values (flat_map group ts) → order ≡ ts
 
--- what a search found: positions, the last first, that give an order that plays; or that none does
+-- a search's result: positions, the last first, whose order replays; or no order does
 abbrev pub IsFound : {A : Type 0} → Values A → (ℕ → List Item) → (ℕ → ℕ) → List ℕ → Option (List ℕ) → Type 0
 IsFound values group lim ts (Some stack) = IsFoundOrder values group lim ts (placed ts stack)
 IsFound values group lim ts None = (order : List ℕ) → IsOrderOf (waits lim ts) ts order → Plays values (flat_map group order) → ⊥

@@ -30,15 +30,14 @@ pub struct Block {
     pub would: Option<Ret>,
 }
 
-/// Transactions that an order may begin with, and after which no other one can be placed: a block for each that could be
-/// next.
+/// A front of an order after which no transaction can be placed, with a block for each that could be next.
 #[derive(Drop)]
 pub struct DeadEnd<A: Allocator> {
     pub front: Items<TxnId, A>,
     pub blocks: Items<Block, A>,
 }
 
-// Whether a group fits on the replay. It always does, since a history has no more events than a replay may have; this is
+// Whether the replay has room for a group. It always has, since a history has no more events than a replay may have; this is
 // not proved.
 fn has_room<A: Allocator + Copy>(replay: &Replay<A>, group: &[Item]) -> bool
     ensures { Decides result (length replay.now.done + length group.now ≤ MOST_EVENTS) }

@@ -4,8 +4,8 @@ use std::alloc::{AllocError, Allocator};
 // How many paths are kept.
 const MOST_PATHS: usize = 3;
 
-// The longest paths at which the search turned back, no two of the same positions. Nothing is promised of them: a replay
-// finds out what holds at each.
+// The longest paths at which the search turned back, no two of the same positions. Nothing is promised about them; a replay
+// checks each.
 #[derive(Drop)]
 pub(crate) struct Longest<A: Allocator> {
     len: usize,

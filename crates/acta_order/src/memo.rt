@@ -42,7 +42,7 @@ pub(crate) struct Entry {
     pub(crate) shared: u32,
 }
 
-// A hash table of places. Nothing is promised of it: a place that is found is always compared with what is sought.
+// A hash table of places. Nothing is promised about it: a place that is found is always compared with the state sought.
 #[derive(Drop)]
 pub(crate) struct Chains<A: Allocator> {
     links: Vec<u32, A>,
@@ -299,7 +299,7 @@ fn shared_at<A: Allocator + Copy>(
     Ok(None)
 }
 
-// The place of a shared part, which is added if it is not found. `None` where the table is full.
+// The place of a shared part, which is added if it is not found. `None` if the table is full.
 fn share<A: Allocator + Copy>(
     alloc: A,
     shared: &mut Vec<Shared<A>, A>,

@@ -27,7 +27,7 @@ use std::alloc::{AllocError, Allocator};
 pub enum Order<A: Allocator> {
     /// A serial order of the committed transactions.
     Found(Items<TxnId, A>),
-    /// No order of the committed transactions is serial, for this cause.
+    /// No order of the committed transactions is serial; why.
     NoOrder(Cause<A>),
 }
 
@@ -50,8 +50,8 @@ fn committed_by<A: Allocator>(event: &Event<A>) -> Option<TxnId>
     }
 }
 
-// The transactions that commit, each once, in the order of their first commits. Counts for each transaction how many of
-// them commit before its first event.
+// The transactions that commit, each once, in the order of their first commits. Counts for each transaction how many of them
+// commit before its first event.
 fn committed<A: Allocator + Copy>(
     alloc: A,
     kept: &[Kept<A>],
@@ -119,13 +119,13 @@ fn first_unsound<A: Allocator + Copy>(
 /// those that it held last. An operation can't be replayed if its object doesn't exist or has another kind, or if no
 /// return is recorded; then no order is serial.
 ///
-/// Where no order is serial, the answer says why: by an operation that can't be replayed, or by dead ends. A dead end is
-/// one of the longest fronts that the search came to, with a block for each transaction that could be placed next. There
-/// are at most three, and no promise that there is one.
+/// If no order is serial, the answer says why: an operation that can't be replayed, or dead ends. A dead end is one of the
+/// longest fronts that the search reached, with a block for each transaction that could be placed next. There are at most
+/// three, possibly none.
 ///
-/// The answer is the order of the commits, if that is serial and allowed by `orders`. `TooLong` comes only from a list of
-/// more than `MOST_EVENTS` events. `TooMany` comes only if there are more than `most_states` states: a state is a list of
-/// transactions that an order may begin with, and in which each operation has its recorded return.
+/// The answer is the order of the commits, if that is serial and allowed by `orders`. `TooLong` is returned only for a list
+/// of more than `MOST_EVENTS` events, `TooMany` only if there are more than `most_states` states: a state is a front of an
+/// order in which each operation has its recorded return.
 pub fn serial_order_of<A: Handle>(
     alloc: A,
     model: &Model<A>,

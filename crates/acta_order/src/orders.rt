@@ -1,4 +1,4 @@
-/// The orders of the committed transactions that a search may answer.
+/// The orders of the committed transactions among which a search may choose.
 #[derive(Clone, Copy, PartialEq, Eq, Debug)]
 pub enum Orders {
     /// Any order.

@@ -82,14 +82,14 @@ impl<A: Allocator + Copy> Replay<A> {
         })
     }
 
-    // The return that an operation on the object would have. `None` where the object doesn't exist.
+    // The return that an operation on the object would have. `None` if the object doesn't exist.
     fn due(&self, ob: ObjId, op: &Op) -> Option<Ret>
         ensures { result ≡ option_map (λ s. returned s op.now) (values_of {A = A} self.now ob.0) }
     {
         self.values.due(ob, op)
     }
 
-    // The value of the object. `None` where it doesn't exist.
+    // The value of the object. `None` if it doesn't exist.
     fn state(&self, k: usize) -> Result<Option<ObjectState<A>>, AllocError>
         ensures { IfOk result (λ state. state ≡ values_of {A = A} self.now k) }
     {
@@ -154,8 +154,8 @@ impl<A: Allocator + Copy> Replay<A> {
         }
     }
 
-    /// Does these operations if each has the return that is recorded. Else answers the first that would return something
-    /// else, and does none of them.
+    /// Does these operations if each has its recorded return. Otherwise returns the first that would return something else,
+    /// and does none of them.
     pub(crate) fn play(&mut self, group: &[Item]) -> Result<Option<Difference>, AllocError>
         requires room { length self.old.done + length group.now ≤ MOST_EVENTS }
         requires sound { list_all (is_sound self.old.kinds) group.now ≡ true }

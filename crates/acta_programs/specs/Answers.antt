@@ -1,4 +1,4 @@
--- What `explore` writes for programs.
+-- The output of `explore` for programs.
 use Rattle.std.specs.Prelude.{◌≡◌, ◌<◌, ◌⊎◌, ⊤, ℕ, Bool, true, false, List, [], ◌∷◌, map, length, codes, decimal, Option, Some, None, Result, Ok, Err}
 use Rattle.acta_table.specs.declared.event.Kept.{Kept}
 use Rattle.acta_table.specs.declared.model.Parts.{Parts}
@@ -11,7 +11,7 @@ use Rattle.acta_io.specs.declared.input.BadLine.{BadLine}
 use Rattle.acta_io.specs.declared.models.NoModel.{NoModel}
 use Rattle.acta_io.specs.Models.{of_either}
 use Rattle.acta_io.specs.Reports.{Output, refused_by, refused_model, stop_line}
-use Rattle.acta_io.specs.Input.{Said, line_numbers, parsed_in}
+use Rattle.acta_io.specs.Input.{Parsed, line_numbers, parsed_in}
 use Rattle.acta_explore.specs.Ends.{AreAllEnds}
 use Rattle.acta_explore.specs.Points.{Point}
 use Rattle.acta_explore.specs.Programs.{Programs}
@@ -20,26 +20,26 @@ use Rattle.acta_ends.specs.EndLines.{explored_lines}
 use Rattle.acta_programs.specs.declared.args.Form.{Form}
 use Rattle.acta_programs.specs.declared.args.Form.TheVariants.{Words, Lines, Events}
 
--- incomplete POINTS ENDS: how many were found before the search was given up
+-- incomplete POINTS ENDS: the numbers found before the search was given up
 abbrev pub incomplete_line : ℕ → ℕ → List ℕ
 incomplete_line points ends = line_of (codes "incomplete" ∷ decimal points ∷ decimal ends ∷ [])
 
--- the line that says so: more points would have had to be searched than may be
+-- the output is this line, with more points than allowed
 abbrev pub HasIncompleteLine : ℕ → Output → Type 0
 HasIncompleteLine most out =
     (points : ℕ) × (ends : ℕ) × (most < points) × (out ≡ refused_by (incomplete_line points ends))
 
--- that it is so, in words for a reader, else by that line
+-- the output after the search was given up: words for a reader, otherwise this line
 abbrev pub IsIncomplete : Form → ℕ → Output → Type 0
 IsIncomplete Words most out = out.is_refused ≡ true
 IsIncomplete Lines most out = HasIncompleteLine most out
 IsIncomplete (Events number) most out = HasIncompleteLine most out
 
--- the line of an event that was kept, without its return
+-- the line of a kept event, without its return
 abbrev pub kept_event_line : {A : Type 0} → Parts A → Kept A → List ℕ
 kept_event_line m kept = event_line m kept.event
 
--- the events of an order, a line each
+-- the events of an order, one per line
 abbrev pub order_events : {A : Type 0} → Point A → List (List ℕ)
 order_events p = map (kept_event_line p.state.model) p.state.kept
 
@@ -53,8 +53,8 @@ abbrev pub end_events : {A : Type 0} → ℕ → ℕ → Option (Point A) → Ou
 end_events number count (Some p) = record { is_refused = false; text = text_of (order_events p) }
 end_events number count None = refused_by (no_end_line number count)
 
--- what is written of the ends: in words for a reader, or as lines of those for which a condition holds, or the events of
--- the one with this number
+-- the output for the ends: words for a reader, or lines of those for which the condition holds, or the events of the end
+-- with this number
 abbrev pub IsOfEnds : {A : Type 0} → Form → Parts A → Programs A → List ℕ → Condition A → List (Point A) → Output → Type 0
 IsOfEnds Words m programs numbers c ends out = out.is_refused ≡ false
 IsOfEnds Lines m programs numbers c ends out =
@@ -62,16 +62,16 @@ IsOfEnds Lines m programs numbers c ends out =
 IsOfEnds (Events number) m programs numbers c ends out =
     out ≡ end_events number (length ends) (item_at ends number)
 
--- all ends were found, and this is written of them
+-- the output for all ends
 abbrev pub IsComplete : {A : Type 0} → Form → Parts A → Programs A → List ℕ → Condition A → Output → Type 0
 IsComplete {A = A} form m programs numbers c out =
     (ends : List (Point A)) × AreAllEnds programs m ends × IsOfEnds form m programs numbers c ends out
 
--- what is written of programs: of all ends, unless the search was given up
+-- the output for programs: for all ends, unless the search was given up
 abbrev pub IsSearched : {A : Type 0} → Form → ℕ → Parts A → Programs A → List ℕ → Condition A → Output → Type 0
 IsSearched form most m programs numbers c out = IsComplete form m programs numbers c out ⊎ IsIncomplete form most out
 
--- what a condition may be, by whether one is given: without one there is no test, so that it holds of each end
+-- the possible conditions, by whether one is given: without one there is no test, so that it holds for each end
 abbrev pub MayMean : {A : Type 0} → Bool → Condition A → Type 0
 MayMean false c = c.terms.items ≡ []
 MayMean true c = ⊤
@@ -81,7 +81,7 @@ abbrev pub IsFaultyCondition : Bool → Output → Type 0
 IsFaultyCondition false out = ⊥
 IsFaultyCondition true out = out.is_refused ≡ true
 
--- what is written of programs, with a condition or without one
+-- the output for programs, with a condition or without one
 abbrev pub IsOfPrograms : {A : Type 0} → Form → Bool → ℕ → Parts A → Programs A → List ℕ → Output → Type 0
 IsOfPrograms {A = A} form given most m programs numbers out =
     ((c : Condition A) × MayMean given c × IsSearched form most m programs numbers c out) ⊎ IsFaultyCondition given out
@@ -91,8 +91,8 @@ abbrev pub IsAnswerUnless : {A : Type 0} → Option BadLine → Form → Bool �
 IsAnswerUnless (Some b) form given most m programs numbers out = out ≡ refused_by (stop_line b)
 IsAnswerUnless None form given most m programs numbers out = IsOfPrograms form given most m programs numbers out
 
--- the output on a model, for what the lines of the input say
-abbrev pub IsAnswerTo : {A : Type 0} → Form → Bool → ℕ → Parts A → Said (ProgramLine A) → List ℕ → Output → Type 0
+-- the output on a model for the parsed lines of an input
+abbrev pub IsAnswerTo : {A : Type 0} → Form → Bool → ℕ → Parts A → Parsed (ProgramLine A) → List ℕ → Output → Type 0
 IsAnswerTo form given most m s numbers out = IsAnswerUnless s.stop form given most m s.parsed numbers out
 
 -- the output on a model for an input, whose seats are numbered from 1 to 16
@@ -100,7 +100,7 @@ abbrev pub IsAnswerOn : {A : Type 0} → Form → Bool → ℕ → Parts A → L
 IsAnswerOn form given most m input out =
     IsAnswerTo form given most m (parsed_in (program_line_of m 16) input) (line_numbers input) out
 
--- the output where this is what the model's bytes mean
+-- the output by the model in the bytes
 abbrev pub IsAnswerBy : {A : Type 0} → Form → Bool → ℕ → Result (Parts A) NoModel → List ℕ → Output → Type 0
 IsAnswerBy form given most (Err fault) input out = out ≡ refused_model fault
 IsAnswerBy form given most (Ok m) input out = IsAnswerOn form given most m input out

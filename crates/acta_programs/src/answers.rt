@@ -1,4 +1,4 @@
-//! The ends as lines or as events, for other programs to read.
+//! The ends as lines or as events, for other programs.
 
 ghost use Rattle.std.specs.Prelude.{◌≡◌, ◌<◌, ◌++◌, ◌∷◌, [], false, length, map, option_map, IfOk, OnOk};
 ghost use Rattle.acta_table.specs.Numbered.{item_at};
@@ -18,7 +18,7 @@ use acta_table::{Event, Model};
 use acta_words::{push_line, push_natural, push_word};
 use std::alloc::{AllocError, Allocator};
 
-// The line that says how much was found before the search was given up.
+// The line with how much was found before the search was given up.
 fn incomplete_line<A: Allocator>(
     alloc: A,
     points: u64,
@@ -33,7 +33,7 @@ fn incomplete_line<A: Allocator>(
     Ok(line)
 }
 
-/// What is written where the search was given up after so many points and ends.
+/// The report if the search was given up after this many points and ends.
 pub(crate) fn write_incomplete<A: Allocator + Copy>(
     alloc: A,
     most: u32,
@@ -79,7 +79,7 @@ fn push_event<A: Allocator + Copy>(
     push_line(text, line.as_slice())
 }
 
-// The events that the machine kept, a line each.
+// The machine's history as event lines.
 fn push_events<A: Handle>(
     alloc: A,
     text: &mut Vec<u8, A>,
@@ -93,7 +93,7 @@ fn push_events<A: Handle>(
     Ok(())
 }
 
-// The events of the order by which a point was reached.
+// The events of the order that leads to a point.
 fn write_order<A: Handle>(alloc: A, point: &Point<A>) -> Result<Report<A>, AllocError>
     ensures { IfOk result (λ report. output_of report ≡ record { is_refused = false; text = text_of (order_events point.now) }) }
 {
@@ -105,7 +105,7 @@ fn write_order<A: Handle>(alloc: A, point: &Point<A>) -> Result<Report<A>, Alloc
     })
 }
 
-// The line that says that there is no end with this number, only so many.
+// The line that there is no end with this number, only so many ends.
 fn no_end_line<A: Allocator>(alloc: A, number: u32, count: usize) -> Result<Vec<u8, A>, AllocError>
     ensures { IfOk result (λ line. line.items ≡ no_end_line number count) }
 {

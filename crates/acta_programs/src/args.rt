@@ -1,4 +1,4 @@
-//! What the words of a command line of `explore` ask for.
+//! The command line of `explore`.
 
 use acta_args::{
     CommandLine, ModelName, UsageFault, flag, model_arg, model_named, option, with_arg,
@@ -7,18 +7,18 @@ use clap::builder::ValueParser;
 use clap::{Arg, ArgMatches, Command};
 use std::alloc::{AllocError, Global};
 
-/// In which form the ends are written.
+/// The form of the output.
 #[derive(Clone, Copy, PartialEq, Eq, Debug)]
 pub enum Form {
-    /// For a reader.
+    /// Words for a reader.
     Words,
-    /// For another program.
+    /// Lines for another program.
     Lines,
     /// Only the events of the first order of the end with this number, from 1.
     Events(u32),
 }
 
-/// What a command line asks for: the ends of the programs of the standard input on a model.
+/// A parsed command line: it asks for the ends of the programs of the standard input on a model.
 #[derive(Clone, Copy, PartialEq, Eq, Debug)]
 pub struct Asked<'a> {
     pub form: Form,
@@ -29,7 +29,7 @@ pub struct Asked<'a> {
     pub model: ModelName<'a>,
 }
 
-/// How many points may be searched if the command line does not say.
+/// How many points may be searched by default.
 pub const MOST_POINTS: u32 = 1_000_000;
 
 const CONDITIONS: &str =
@@ -51,7 +51,7 @@ pub fn most_option<'a>(alloc: Global) -> Arg<'a> {
     number(alloc, "most", "N", help).default_value("1000000")
 }
 
-// The form that the matches ask for.
+// The form of the output that the matches name.
 fn form_asked(matches: &ArgMatches<'_>) -> Form {
     match matches.get_one::<u32>("end") {
         Some(number) => Form::Events(number),
@@ -60,7 +60,7 @@ fn form_asked(matches: &ArgMatches<'_>) -> Form {
     }
 }
 
-// What the matches ask for.
+// Converts the matches.
 fn asked_by<'a>(matches: &ArgMatches<'a>) -> Result<Asked<'a>, UsageFault> {
     match model_named(matches.get_str("MODEL").unwrap_or("@")) {
         Some(model) => Ok(Asked {

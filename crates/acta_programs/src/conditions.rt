@@ -1,4 +1,4 @@
-//! What is wrong with a condition, in words.
+//! Describes a faulty condition.
 
 ghost use Rattle.std.specs.Prelude.{◌≡◌, true, IfOk};
 
@@ -20,7 +20,7 @@ fn put_objects<A: Handle>(mut prose: Prose<A>, model: &Model<A>) -> Prose<A> {
     prose
 }
 
-// Adds which values an object has.
+// Adds the values that an object can have.
 fn put_value_of<A: Handle>(prose: Prose<A>, model: &Model<A>, object: ObjId) -> Prose<A> {
     match model.object(object) {
         Some(object) if matches!(object.kind, Kind::Elements) => {
@@ -47,7 +47,7 @@ fn put_expected<A: Handle>(prose: Prose<A>, model: &Model<A>, expected: Expected
     }
 }
 
-/// What is wrong with the text of a condition.
+/// Describes the fault of a condition's text.
 pub(crate) fn explain_condition<A: Handle>(
     alloc: A,
     model: &Model<A>,

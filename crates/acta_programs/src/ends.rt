@@ -6,9 +6,9 @@ use crate::programs::Programs;
 use crate::totals::{Totals, kind_words};
 use crate::waiting::{put_deadlocks, put_debts, put_waits};
 use acta_ends::{Condition, kept_ends};
-use acta_explain::{NonBlankLine, Prose, RunTrace, name_text, put};
+use acta_explain::{Prose, RunTrace, name_text, put};
 use acta_explore::{Done, Explored, Outcome, Point, TxnStatus, Value};
-use acta_io::Report;
+use acta_io::{NonBlankLine, Report};
 use acta_machine::Handle;
 use acta_table::{Ret, Status};
 use std::alloc::AllocError;
@@ -76,7 +76,7 @@ fn put_values<A: Handle>(
     prose.put("\n")
 }
 
-// Adds what a return is, after the operation; nothing of one that only says that the operation was done.
+// Adds the return after an operation, unless it only tells that the operation was done.
 fn put_return<A: Handle>(prose: Prose<A>, ret: Option<Ret>) -> Prose<A> {
     match ret {
         Some(Ret::Value(value)) => put!(prose; " = ", value),
@@ -86,12 +86,12 @@ fn put_return<A: Handle>(prose: Prose<A>, ret: Option<Ret>) -> Prose<A> {
     }
 }
 
-// Whether a line that did this is named: it had a choice, or returned something.
+// Whether a line that did this is listed: it had a choice, or returned something.
 fn is_named(alternatives: usize, done: &Done) -> bool {
     alternatives > 1 || matches!(done.ret, Some(Ret::Value(_) | Ret::Flag(_)))
 }
 
-// Adds which alternatives were taken, and what operations returned, except by the first `past` lines.
+// Adds which alternatives were taken, and the returns of operations, except for the first `past` lines.
 fn put_lines<A: Handle>(
     mut prose: Prose<A>,
     programs: &Programs<'_, A>,
@@ -114,7 +114,7 @@ fn put_lines<A: Handle>(
     prose.put(if is_first { "" } else { "\n" })
 }
 
-// Takes the events of the order by which a point was reached, each by its line.
+// Takes the events of the order that leads to a point, each with its line.
 fn take_all<A: Handle>(
     run: &mut RunTrace<A>,
     programs: &Programs<'_, A>,
@@ -133,7 +133,7 @@ fn take_all<A: Handle>(
     Ok(())
 }
 
-// Adds why seats wait, which of them wait for one another, and what is owed.
+// Adds why seats wait, the deadlocks among them, and the debts.
 fn put_open<A: Handle>(
     prose: Prose<A>,
     programs: &Programs<'_, A>,
@@ -157,7 +157,7 @@ fn put_open<A: Handle>(
     put_debts(prose, &run, outcome.debts.as_slice())
 }
 
-// Adds the end at this place, from 0, without the first `past` lines and steps: these were done before.
+// Adds the end at this place, from 0, without the first `past` lines and steps, which were done before.
 fn put_end_after<A: Handle>(
     prose: Prose<A>,
     programs: &Programs<'_, A>,
@@ -190,7 +190,7 @@ pub fn put_end<A: Handle>(
     put_end_after(prose, programs, explored, place, 0)
 }
 
-/// Adds the ends at these places, each without the first `past` lines and steps: these were done before.
+/// Adds the ends at these places, each without the first `past` lines and steps, which were done before.
 pub(crate) fn put_ends<A: Handle>(
     mut prose: Prose<A>,
     programs: &Programs<'_, A>,
@@ -204,7 +204,7 @@ pub(crate) fn put_ends<A: Handle>(
     prose
 }
 
-/// How many ends there are, in words.
+/// The number of ends, in words.
 #[derive(Clone, Copy)]
 pub(crate) struct EndCount(pub(crate) usize);
 
@@ -223,12 +223,12 @@ impl fmt::Display for EndCount {
     }
 }
 
-/// Adds how many ends there are.
+/// Adds the number of ends.
 pub fn put_count<A: Handle>(prose: Prose<A>, count: usize) -> Prose<A> {
     prose.put(EndCount(count))
 }
 
-/// Adds how many of the ends at these places are of each kind, and how many points were searched.
+/// Adds the number of ends of each kind at these places, and the number of points searched.
 pub(crate) fn put_kinds<A: Handle>(
     prose: Prose<A>,
     explored: &Explored<A>,
@@ -244,7 +244,7 @@ pub(crate) fn put_kinds<A: Handle>(
     Totals::of(explored, places).put(prose)
 }
 
-// Adds how many ends there are: of each kind, or of all those for which the condition holds.
+// Adds the number of ends: of each kind, or of all those for which the condition holds.
 fn put_head<A: Handle>(
     prose: Prose<A>,
     programs: &Programs<'_, A>,
@@ -284,7 +284,7 @@ pub(crate) fn explain_ends<A: Handle>(
     })
 }
 
-/// That the search was given up after so many points and ends, in words.
+/// The words that the search was given up after this many points and ends.
 pub fn explain_incomplete<A: Handle>(
     alloc: A,
     most: u32,

@@ -1,4 +1,4 @@
-//! The ways in which programs can end that go on from the state of a machine, in words.
+//! The ways in which programs that continue from the state of a machine can end, in words.
 
 ghost use Rattle.std.specs.Prelude.{◌≡◌, ◌<◌, length, IfOk};
 ghost use Rattle.std.specs.Io.{StartsWith};
@@ -7,15 +7,16 @@ ghost use Rattle.acta_programs.specs.From.{IsAnswerAfter, IsAnswerFrom, IsGivenU
 
 use crate::ends::{EndCount, put_ends, put_kinds};
 use crate::programs::Programs;
-use acta_explain::{Prose, non_blank_lines};
+use acta_explain::Prose;
 use acta_explore::{ExploreError, Explored, Plan, Point, Watch, explore_from, history_lines};
+use acta_io::non_blank_lines;
 use acta_machine::{Handle, Machine};
 use acta_script::{ProgramLine, write_event};
 use acta_table::Items;
 use acta_words::push_line;
 use std::alloc::AllocError;
 
-// The same line, in memory of its own.
+// A copy of the line in memory of its own.
 fn copy_line<A: Handle>(alloc: A, line: &ProgramLine<A>) -> Result<ProgramLine<A>, AllocError>
     ensures { IfOk result (λ copy. copy ≡ line.now) }
 {
@@ -30,7 +31,7 @@ fn copy_line<A: Handle>(alloc: A, line: &ProgramLine<A>) -> Result<ProgramLine<A
     })
 }
 
-// The lines of the machine's events, and then those of the seats.
+// The lines of the machine's events, followed by those of the seats.
 fn lines_after<A: Handle>(
     alloc: A,
     machine: &Machine<A>,
@@ -45,7 +46,7 @@ fn lines_after<A: Handle>(
     Ok(all)
 }
 
-// The text of the lines: the machine's events as lines of seat 0, and then what was typed.
+// The text of the lines: the machine's events as lines of seat 0, followed by what was typed.
 fn text_after<A: Handle>(
     alloc: A,
     machine: &Machine<A>,
@@ -61,7 +62,7 @@ fn text_after<A: Handle>(
     Ok(text)
 }
 
-// The words after how many ends there are: how many are of each kind, and each end, without the machine's events.
+// The words after the number of ends: how many are of each kind, and each end, without the machine's events.
 fn ends_text<A: Handle>(
     alloc: A,
     machine: &Machine<A>,
@@ -103,7 +104,7 @@ fn explain_all<A: Handle>(
     Ok(text)
 }
 
-// How many points and ends were found before the search was given up, in words.
+// The line with how many points and ends were found before the search was given up.
 fn given_up_line<A: Handle>(alloc: A, points: u64, ends: usize) -> Result<Vec<u8, A>, AllocError>
     ensures { IfOk result (λ line. line.items ≡ given_up_line points ends) }
 {
@@ -111,7 +112,7 @@ fn given_up_line<A: Handle>(alloc: A, points: u64, ends: usize) -> Result<Vec<u8
     Ok(line.into_bytes())
 }
 
-// That the search was given up after so many points and ends, in words.
+// The words that the search was given up after this many points and ends.
 fn explain_given_up<A: Handle>(
     alloc: A,
     most: u32,
@@ -129,8 +130,8 @@ fn explain_given_up<A: Handle>(
     Ok(text)
 }
 
-// How programs can end that go on from the root, in words. The root is the point after the machine's events, and the lines
-// begin with those of these events.
+// How programs that continue from the root can end, in words. The root is the point after the machine's events, and the
+// lines begin with those of these events.
 fn explain_root<A: Handle, W: Watch>(
     alloc: A,
     most: u32,
@@ -157,12 +158,11 @@ fn explain_root<A: Handle, W: Watch>(
     }
 }
 
-/// Explains to a reader how programs can end that go on from the machine's state, whatever the order of their steps. The
-/// events that the machine has kept count as the lines before those of the programs: `line N` in the words is the N-th of
-/// all these lines, and operations are numbered on from the machine's. Of an end only what comes after the machine's events
-/// is shown. `lines` are the lines of the seats, and `typed` is their text, with a line feed after each; the words quote
-/// it. The text says how many ends there are, or that the search was given up: more than `most` points would have to be
-/// searched.
+/// Explains how programs that continue from the machine's state can end, in whatever order of their steps. The machine's
+/// history counts as the first lines: `line N` in the words is the Nth line of the history and the programs together, and
+/// operations are numbered on from the machine's. Each end is shown without the history. `lines` are the lines of the seats,
+/// and `typed` is their text, with a line feed after each, which the words quote. The text gives the number of ends, or that
+/// the search was given up because more than `most` points would have to be searched.
 pub fn explain_from<A: Handle, W: Watch>(
     alloc: A,
     most: u32,

@@ -1,9 +1,9 @@
 //! The command `explore`: the ways in which programs can end, for a reader or for another program.
 //!
-//! The search is that of `acta_explore`, and the lines for other programs are those of `acta_ends`. For a reader each end
-//! is put into words: how the transactions and the objects are, why each seat waits, which seats wait for one another,
-//! what is owed, and the first order that leads there. `explain_from` does so for programs that go on from the state of a
-//! machine. A call that allocates returns `Err` if memory runs out.
+//! `acta_explore` does the search, and `acta_ends` writes the lines for other programs. For a reader each end is put into
+//! words: the transactions and the objects, why each seat waits, the deadlocks among seats, the debts, and the first order
+//! that leads there. `explain_from` does so for programs that continue from the state of a machine. A call that allocates
+//! returns `Err` if memory runs out.
 #![tactic(auto)]
 
 mod answers;

@@ -1,8 +1,9 @@
-//! Programs, with the lines of the input that say them.
+//! Programs, with their lines in the input.
 
 use acta_ends::{Condition, condition_text};
-use acta_explain::{NonBlankLine, Prose, name_text, put};
+use acta_explain::{Prose, name_text, put};
 use acta_explore::{Plan, Step};
+use acta_io::NonBlankLine;
 use acta_machine::Handle;
 use acta_script::ProgramLine;
 use acta_table::Model;
@@ -16,7 +17,7 @@ pub struct Programs<'a, A: Handle> {
     pub lines: &'a [ProgramLine<A>],
     /// The number of each line in the input.
     pub numbers: &'a [usize],
-    /// Each line as the input has it.
+    /// Each line as written in the input.
     pub texts: &'a [NonBlankLine<'a>],
     pub plan: &'a Plan<'a, A>,
 }
@@ -38,7 +39,7 @@ impl<'a, A: Handle> Programs<'a, A> {
         }
     }
 
-    /// Adds the alternatives of the line as the input has them, with single spaces.
+    /// Adds the alternatives of the line as written in the input, with single spaces.
     pub(crate) fn put_line(&self, mut prose: Prose<A>, line: usize) -> Prose<A> {
         for alternative in 0..self.alternatives(line) {
             prose = prose.put(if alternative == 0 { "" } else { " | " });
@@ -47,7 +48,7 @@ impl<'a, A: Handle> Programs<'a, A> {
         prose
     }
 
-    /// Adds an alternative of the line, from 0, as the input has it, with single spaces.
+    /// Adds an alternative of the line, from 0, as written in the input, with single spaces.
     pub(crate) fn put_alternative(
         &self,
         mut prose: Prose<A>,
@@ -74,7 +75,7 @@ impl<'a, A: Handle> Programs<'a, A> {
         prose
     }
 
-    /// Adds the lines that steps did, each after a space, with the alternative where the line has several.
+    /// Adds the lines that steps did, each after a space, with the alternative if the line has several.
     pub(crate) fn put_order(&self, mut prose: Prose<A>, steps: &[Step]) -> Prose<A> {
         for step in steps {
             prose = put!(prose; " ", self.number(step.line));
@@ -85,7 +86,7 @@ impl<'a, A: Handle> Programs<'a, A> {
         prose
     }
 
-    /// Adds a condition, in words that can be read again.
+    /// Adds a condition in the form in which it is read.
     pub(crate) fn put_condition(&self, prose: Prose<A>, condition: &Condition<A>) -> Prose<A> {
         match condition_text(self.alloc, self.model, self.numbers, condition) {
             Ok(text) => prose.put(name_text(text.as_slice())),

@@ -1,4 +1,4 @@
-//! What is written for the bytes of a model and of programs.
+//! The report for the bytes of a model and of programs.
 
 ghost use Rattle.std.specs.Prelude.{◌≡◌, ◌≤◌, ◌<◌, ◌+◌, false, true, map, is_some, IfErr, IfOk, IfSome};
 ghost use Rattle.acta_explore.specs.Outcomes.{outcome};
@@ -14,10 +14,9 @@ use crate::conditions::explain_condition;
 use crate::ends::{explain_ends, explain_incomplete};
 use crate::programs::Programs;
 use acta_ends::{Condition, ConditionError, read_condition};
-use acta_explain::non_blank_lines;
 use acta_explore::{ExploreError, Explored, Plan, Watch, explore};
 use acta_io::{
-    MOST_SEATS, ModelError, Outcome, ProgramLines, ReadFault, Report, Sink, Source,
+    MOST_SEATS, ModelError, NonBlankLine, Outcome, ProgramLines, ReadFault, Report, Sink, Source,
     numbers_of_lines, read_lines, read_model, read_within, refuse_line, refuse_model, write_report,
 };
 use acta_machine::Handle;
@@ -29,7 +28,7 @@ use std::alloc::AllocError;
 fn explain_explored<A: Handle>(
     alloc: A,
     model: &Model<A>,
-    input: &[u8],
+    texts: &[NonBlankLine<'_>],
     lines: &[ProgramLine<A>],
     numbers: &[usize],
     condition: &Condition<A>,
@@ -37,25 +36,24 @@ fn explain_explored<A: Handle>(
 ) -> Result<Report<A>, AllocError>
     ensures { IfOk result (λ report. report.is_refused ≡ false) }
 {
-    let texts = non_blank_lines(alloc, input)?;
     let plan = Plan::of(alloc, lines)?;
     let programs = Programs {
         alloc,
         model,
         lines,
         numbers,
-        texts: texts.as_slice(),
+        texts,
         plan: &plan,
     };
     explain_ends(&programs, condition, explored)
 }
 
-// What is written of all ends.
+// The report on all ends.
 fn write_ends<A: Handle>(
     alloc: A,
     form: Form,
     model: &Model<A>,
-    input: &[u8],
+    texts: &[NonBlankLine<'_>],
     lines: &[ProgramLine<A>],
     numbers: &[usize],
     condition: &Condition<A>,
@@ -66,14 +64,14 @@ fn write_ends<A: Handle>(
 {
     match form {
         Form::Words => {
-            explain_explored(alloc, model, input, lines, numbers, condition, explored)
+            explain_explored(alloc, model, texts, lines, numbers, condition, explored)
         },
         Form::Lines => write_lines(alloc, model, lines, numbers, condition, explored),
         Form::Events(number) => write_events(alloc, explored, number),
     }
 }
 
-// What is written where the search was given up after so many points and ends.
+// The report if the search was given up after this many points and ends.
 fn write_given_up<A: Handle>(
     alloc: A,
     form: Form,
@@ -91,13 +89,13 @@ fn write_given_up<A: Handle>(
     }
 }
 
-// What is written of programs.
+// The report on programs.
 fn search<A: Handle, W: Watch>(
     alloc: A,
     form: Form,
     most: u32,
     model: &Model<A>,
-    input: &[u8],
+    texts: &[NonBlankLine<'_>],
     lines: &[ProgramLine<A>],
     numbers: &[usize],
     condition: &Condition<A>,
@@ -110,7 +108,7 @@ fn search<A: Handle, W: Watch>(
     match found {
         Ok(explored) => {
             let report = write_ends(
-                alloc, form, model, input, lines, numbers, condition, &explored,
+                alloc, form, model, texts, lines, numbers, condition, &explored,
             );
             drop(explored);
             report
@@ -122,7 +120,7 @@ fn search<A: Handle, W: Watch>(
     }
 }
 
-// The condition that a command line asks for; without one, that which holds of each end.
+// The condition of a command line; without one, a condition that holds for each end.
 fn condition_asked<A: Handle>(
     alloc: A,
     model: &Model<A>,
@@ -141,12 +139,13 @@ fn condition_asked<A: Handle>(
     }
 }
 
-// What is written of programs whose lines are good.
+// The report on programs without a faulty line.
 fn explore_lines<A: Handle, W: Watch>(
     alloc: A,
     asked: Asked<'_>,
     model: &Model<A>,
     input: &[u8],
+    texts: &[NonBlankLine<'_>],
     lines: &[ProgramLine<A>],
     watch: &mut W,
 ) -> Result<Report<A>, AllocError>
@@ -171,7 +170,7 @@ fn explore_lines<A: Handle, W: Watch>(
         asked.form,
         asked.most,
         model,
-        input,
+        texts,
         lines,
         numbers.as_slice(),
         &condition,
@@ -179,7 +178,7 @@ fn explore_lines<A: Handle, W: Watch>(
     )
 }
 
-// What is written on a model.
+// The report on a model.
 fn explore_on<A: Handle, W: Watch>(
     alloc: A,
     asked: Asked<'_>,
@@ -197,12 +196,20 @@ fn explore_on<A: Handle, W: Watch>(
     let read = read_lines(alloc, &reader, input)?;
     match read.stop {
         Some(stop) => refuse_line(alloc, stop),
-        None => explore_lines(alloc, asked, model, input, read.parsed.as_slice(), watch),
+        None => explore_lines(
+            alloc,
+            asked,
+            model,
+            input,
+            read.lines.as_slice(),
+            read.parsed.as_slice(),
+            watch,
+        ),
     }
 }
 
-/// What is written for the bytes of a model and of programs. The condition of a command line is read on the model and the
-/// programs; a faulty one refuses the input, and so does a search that finds more points than may be.
+/// The report for the bytes of a model and of programs. The condition of the command line is read on the model and the
+/// programs. A faulty condition refuses the input, and so does a search that finds more points than allowed.
 pub fn explored<A: Handle, W: Watch>(
     alloc: A,
     asked: Asked<'_>,
@@ -219,8 +226,8 @@ pub fn explored<A: Handle, W: Watch>(
     }
 }
 
-/// Reads the whole input, and writes in one go how the programs in it can end on the model of these bytes. `Unread` and
-/// `Unwritten` as for the other commands: where the input can't be read, nothing is written.
+/// Reads the whole input, and writes at once how its programs can end on the model of these bytes. Returns `Unread` and
+/// `Unwritten` as the other commands do: if the input can't be read, nothing is written.
 pub fn explore_tool<A: Handle, W: Watch, S: Source, K: Sink>(
     alloc: A,
     asked: Asked<'_>,

@@ -1,10 +1,10 @@
-//! How many ends there are of each kind.
+//! The number of ends of each kind.
 
 use acta_explain::{Prose, put};
 use acta_explore::{Explored, Outcome};
 use acta_machine::Handle;
 
-/// How many ends are of each kind.
+/// The number of ends of each kind.
 #[derive(Clone, Copy)]
 pub(crate) struct Totals {
     complete: usize,
@@ -13,7 +13,7 @@ pub(crate) struct Totals {
     both: usize,
 }
 
-/// What an end is called, by the seats that wait and by what is owed.
+/// The name of an end's kind, by whether seats wait and whether there are debts.
 pub(crate) fn kind_words<A: Handle>(outcome: &Outcome<A>) -> &'static str {
     match (outcome.waits.is_empty(), outcome.debts.is_empty()) {
         (true, true) => "complete",
@@ -24,7 +24,7 @@ pub(crate) fn kind_words<A: Handle>(outcome: &Outcome<A>) -> &'static str {
 }
 
 impl Totals {
-    /// How many of the ends at these places are of each kind.
+    /// The number of ends of each kind at these places.
     pub(crate) fn of<A: Handle>(explored: &Explored<A>, places: &[usize]) -> Totals {
         let mut totals = Totals {
             complete: 0,
@@ -51,7 +51,7 @@ impl Totals {
         *count = count.saturating_add(1);
     }
 
-    /// Adds the numbers of those kinds of which there are some.
+    /// Adds the numbers of the kinds that occur.
     pub(crate) fn put<A: Handle>(self, mut prose: Prose<A>) -> Prose<A> {
         let counts = [
             (self.complete, " complete"),

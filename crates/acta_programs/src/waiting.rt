@@ -1,4 +1,4 @@
-//! Why seats wait at an end, which of them wait for one another, and what is owed.
+//! Why seats wait at an end, the deadlocks among them, and the debts.
 
 use crate::programs::Programs;
 use acta_explain::{Prose, Refused, RunTrace, put, put_barred, put_prospect, put_standing};
@@ -23,7 +23,7 @@ fn did_operation(lines: &[Option<Done>], line: usize) -> bool {
     }
 }
 
-// Adds that no line does an operation of this number, or that it was not done; nothing if it was.
+// Adds that no line does an operation with this number, or that it was not done; nothing if it was.
 fn put_undone<A: Handle>(
     prose: Prose<A>,
     programs: &Programs<'_, A>,
@@ -43,7 +43,7 @@ fn put_undone<A: Handle>(
         .put("), which has not done it.\n")
 }
 
-// Adds which of the operations was not done, the first; nothing if all were.
+// Adds the first of the operations that was not done; nothing if all were.
 fn put_first_undone<A: Handle>(
     prose: Prose<A>,
     programs: &Programs<'_, A>,
@@ -59,7 +59,7 @@ fn put_first_undone<A: Handle>(
     prose
 }
 
-// Adds which operation that the alternative of the line names was not done; nothing if all were.
+// Adds an operation that the alternative of the line names and that was not done; nothing if all were.
 fn put_bad_set<A: Handle>(
     prose: Prose<A>,
     programs: &Programs<'_, A>,
@@ -79,7 +79,7 @@ fn put_bad_set<A: Handle>(
     }
 }
 
-// Adds why the event is refused: what is so, and not what hope there is, since nothing comes any more.
+// Adds why the event is refused, without the hope, since no later event comes.
 fn put_facts<A: Handle>(
     prose: Prose<A>,
     run: &RunTrace<A>,
@@ -94,7 +94,7 @@ fn put_facts<A: Handle>(
     refused.put_facts(prose, reason)
 }
 
-// Whether an event names an operation of the programs that was not done: the machine is then asked for operation 0.
+// Whether an event names an operation of the programs that was not done: the machine's number for it is then 0.
 fn is_undone(reason: &Reason) -> bool {
     match reason {
         Reason::BadSet { number, .. } => number.0 == 0,
@@ -128,7 +128,7 @@ fn put_reason<A: Handle>(
     }
 }
 
-// Adds why an alternative of the line is refused, in lines that begin with the alternative where there are several.
+// Adds why an alternative of the line is refused, in lines that begin with the alternative if there are several.
 fn put_alternative<A: Handle>(
     prose: Prose<A>,
     programs: &Programs<'_, A>,
@@ -144,7 +144,7 @@ fn put_alternative<A: Handle>(
     put_reason(prose, programs, end, line, alternative)
 }
 
-// Adds where a seat waits, and why.
+// Adds the line at which a seat waits, and why.
 fn put_wait<A: Handle>(
     prose: Prose<A>,
     programs: &Programs<'_, A>,
@@ -165,7 +165,7 @@ fn put_wait<A: Handle>(
     prose
 }
 
-/// Adds where each seat waits that is not done, and why.
+/// Adds for each seat that is not done the line at which it waits, and why.
 pub(crate) fn put_waits<A: Handle>(
     mut prose: Prose<A>,
     programs: &Programs<'_, A>,
@@ -177,7 +177,7 @@ pub(crate) fn put_waits<A: Handle>(
     prose
 }
 
-// Adds seats of which each waits for the next.
+// Adds a chain of seats, each of which waits for the next.
 fn put_circle<A: Handle>(prose: Prose<A>, circle: &[u8]) -> Prose<A> {
     let mut prose = prose.put("  deadlock:");
     let mut is_first = true;
@@ -188,7 +188,7 @@ fn put_circle<A: Handle>(prose: Prose<A>, circle: &[u8]) -> Prose<A> {
     prose.put("\n")
 }
 
-/// Adds the seats that wait for one another: a circle of them each.
+/// Adds the deadlocks among seats, one cycle each.
 pub(crate) fn put_deadlocks<A: Handle>(
     mut prose: Prose<A>,
     programs: &Programs<'_, A>,
@@ -215,7 +215,7 @@ pub(crate) fn put_deadlocks<A: Handle>(
     prose
 }
 
-// Adds a debt, and how the two transactions are.
+// Adds a debt, and the statuses of the two transactions.
 fn put_debt<A: Handle>(prose: Prose<A>, run: &RunTrace<A>, debt: &Debt) -> Prose<A> {
     let owed = match debt.missing() {
         Missing::Commit => "a commit",
@@ -229,7 +229,7 @@ fn put_debt<A: Handle>(prose: Prose<A>, run: &RunTrace<A>, debt: &Debt) -> Prose
     put_standing(prose, run.lines(), debt.txn, machine.status(debt.txn)).put("\n")
 }
 
-/// Adds what is owed, and of each debt whether it can be paid now, later or not any more.
+/// Adds the debts, and for each whether it can be paid now, later or never.
 pub fn put_debts<A: Handle>(mut prose: Prose<A>, run: &RunTrace<A>, debts: &[Debt]) -> Prose<A> {
     if debts.is_empty() {
         return prose;

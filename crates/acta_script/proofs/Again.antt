@@ -1,4 +1,4 @@
--- What is written of an event or a kept item is read again.
+-- Reading a written event or kept item gives it back.
 use Rattle.std.proofs.Common.{◌≡◌, ◌≤◌, ◌<◌, ◌+◌, ◌^◌, ℕ, suc, Bool, true, false, ◌&&◌, ◌||◌, not, cond, List, [], ◌∷◌, ◌++◌, length, take, drop, decimal, codes, Option, Some, None, option_map, ok_or, Result, Ok, IfSome, ℤ, pos, negsuc, refl, ap, ◌∙◌, arith, lit≤, lit<, ◌==◌}
 use Rattle.std.specs.Fmt.{signed_decimal}
 use Rattle.std.specs.List.{AllByRecursion, list_any, list_all, position_or_len, before_first, after_first}
@@ -86,7 +86,7 @@ kind-spelled Bcd = refl
 kind-spelled Bad = refl
 kind-spelled Wcd = refl
 
--- an operation with a number
+-- an operation with an INT
 with_number : (op : ℤ → Op) (z : ℤ) → IsWithin 0x8000_0000 z → (parse_integer (signed_decimal z) >>= (λ v. Ok (op v))) ≡ Ok (op z)
 with_number op z within = ap (λ (r : Result ℤ LineFault). r >>= (λ v. Ok (op v))) (integer_again z within)
 
@@ -164,7 +164,7 @@ module _ {A : Type 0} (m : Parts A) (good : IsChecked m) where
   event-spelled (Abort t) inside ranges = λ i. (txn-spelled t ranges.txns.0 i) && true
   event-spelled (Permit t u ob) inside ranges = λ i. (txn-spelled t ranges.txns.0 i) && ((txn-spelled u ranges.txns.1.0 i) && ((object-spelled ob inside.object i) && true))
 
--- the line of an event says the event
+-- reading the line of an event gives the event
 pub event_line_again : {A : Type 0} (m : Parts A) (e : Event A) → lowest_fault m ≡ None → IsInModel m e → HasRanges e → IsReadAgain m e
 unfolding event_line
 event_line_again m e faultless inside ranges =
@@ -179,7 +179,7 @@ not_digits : (ds : List ℕ) (d : ℕ) (rest : List ℕ) → AllDigits 10 ds →
 not_digits [] d rest all high = refl
 not_digits (c ∷ cs) d rest all high = ap (λ (t : Bool). t && bytes_eq cs rest) (not_digit c d (digit_from_value c all.0).1 high)
 
--- a number is no word of a return
+-- a number is not one of the words of returns
 not_word : (z : ℤ) (d : ℕ) (rest : List ℕ) → IsWithin 0x8000_0000_0000_0000 z → 57 < d → bytes_eq (signed_decimal z) (d ∷ rest) ≡ false
 not_word (pos n) d rest within high = not_digits (decimal n) d rest (decimal_is_IsNumeral n (omega (arith, ints, within.1))).0.1 high
 not_word (negsuc n) d rest within high = ap (λ (t : Bool). t && bytes_eq (decimal (suc n)) rest) (not_digit 45 d (lit≤ tt) high)
@@ -273,6 +273,6 @@ kept_again : {A : Type 0} (m : Parts A) (e : Event A) (ret : Option Ret) → low
 kept_again m e None faultless inside ranges range = plain_again m e faultless inside ranges
 kept_again m e (Some ret) faultless inside ranges range = with_return_again m e faultless inside ranges ret range
 
--- the line of the kept item says the item
+-- reading the line of a kept item gives the item
 pub kept_line_again : {A : Type 0} (m : Parts A) (kept : Kept A) → lowest_fault m ≡ None → IsInModel m kept.event → HasRanges kept.event → IfSome kept.ret HasRange → IsKeptAgain m kept
 kept_line_again m kept faultless inside ranges range = kept_again m kept.event kept.ret faultless inside ranges range

@@ -1,4 +1,4 @@
--- Alternatives that are read part by part.
+-- Alternatives, read part by part.
 use Rattle.std.proofs.Common.{◌≡◌, ℕ, suc, Bool, true, false, cond, nat_le, ◌==◌, if◌then◌else◌, min, List, [], ◌∷◌, ◌++◌, ◌+◌, ◌<◌, length, get_or, drop, map, Result, Ok, Err, Option, Some, None, refl, sym, ap, subst, ◌∙◌, arith}
 use Rattle.std.specs.List.{slice_split, onto_first}
 use Rattle.std.specs.Option.{option_map_or}
@@ -24,7 +24,7 @@ next-mapped : {X Y : Type 0} (f : X → Y) (x : X) (is_cut : Bool) (parts : List
 next-mapped f x true parts mapped same = ap (λ t. [] ∷ t) same
 next-mapped f x false parts mapped same = onto-mapped f x parts ∙ ap (onto_first (f x)) same
 
--- the parts of a list, each item mapped, are the parts of the mapped list
+-- the parts of a mapped list are the mapped parts
 split-mapped : {X Y : Type 0} (p : Y → Bool) (f : X → Y) (xs : List X) → map (map f) (slice_split (λ x. p (f x)) xs) ≡ slice_split p (map f xs)
 split-mapped p f [] = refl
 split-mapped p f (x ∷ xs) = next-mapped f x (p (f x)) (slice_split (λ x. p (f x)) xs) (slice_split p (map f xs)) (split-mapped p f xs)
@@ -67,7 +67,7 @@ lower-across f g h =
     same-number (lower g (lower f h)) (lower (lower f g) h)
     (omega (arith, number-lower g (lower f h), number-lower f h, number-lower (lower f g) h, number-lower f g))
 
--- the events and the lowest fault so far, with what the parts that are left give
+-- the events and the lowest fault so far, combined with those of the remaining parts
 abbrev pub with_left : {A : Type 0} → List (Event A) → Option LineFault → Result (List (Event A)) LineFault → Result (List (Event A)) LineFault
 with_left events None left = left >>= (λ more. Ok (events ++ more))
 with_left events (Some fault) left = Err (option_map_or (lower fault) (result_err left) fault)
@@ -77,7 +77,7 @@ pub begins : {A : Type 0} (events : List (Event A)) (left : Result (List (Event 
 begins events (Ok more) none = ap (λ es. Ok (es ++ more)) none
 begins events (Err fault) none = refl
 
--- the next part says an event
+-- the next part is an event
 pub next-event : {A : Type 0} (events : List (Event A)) (fault : Option LineFault) (event : Event A) (left : Result (List (Event A)) LineFault)
     → with_left events fault (both one_more (Ok event) left) ≡ with_left (events ++ event ∷ []) fault left
 next-event events None event (Ok more) = ap Ok (sym (append_assoc events (event ∷ []) more))
@@ -100,7 +100,7 @@ module _ {A R : Type 0} (m : Parts A) (view : R → List (List ℕ)) (parts : Li
   begun : with_left events fault (both one_more (event_behind m (view (get_or parts i d))) left) ≡ all
   begun = sym (ap (with_left events fault) (at_drop_more (λ ps. alternatives_in m (map view ps)) parts i d within)) ∙ so_far
 
-  -- what was found with the event of the next part, and what the parts behind it give
+  -- the result so far with the event of the next part, and the results of the later parts
   pub at-event : (event : Event A) (events_now : List (Event A)) (fault_now : Option LineFault)
       → event_behind m (view (get_or parts i d)) ≡ Ok event → events_now ≡ events ++ event ∷ [] → fault_now ≡ fault → with_left events_now fault_now left ≡ all
   at-event event events_now fault_now is events_are fault_is =
@@ -123,14 +123,14 @@ one-counted (Ok event) (Err f) n events count is = absurd (cc)
 one-counted (Err f) (Ok more) n events count is = absurd (cc)
 one-counted (Err f) (Err g) n events count is = absurd (cc)
 
--- where no part is faulty, there is an event for each
+-- if no part has a fault, there is an event for each
 counted : {A : Type 0} (m : Parts A) (parts : List (List (List ℕ))) (events : List (Event A)) → alternatives_in m parts ≡ Ok events → length events ≡ length parts
 counted m [] events is =
     let same : [] ≡ events = cc in
     sym (ap length same)
 counted m (part ∷ parts) events is = one-counted (event_behind m part) (alternatives_in m parts) (length parts) events (counted m parts) is
 
--- words say at least one alternative, or none for a fault
+-- the words give at least one alternative, or a fault
 pub some-alternative : {A : Type 0} (m : Parts A) (words : List (List ℕ)) (events : List (Event A)) → parse_alternatives m words ≡ Ok events → 0 < length events
 some-alternative m words events is =
     omega (arith, counted m (slice_split is_bar words) events is, length-slice_split is_bar words)

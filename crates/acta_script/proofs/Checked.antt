@@ -1,4 +1,4 @@
--- What holds of a checked model: how many classes and objects it has, and that their names are names, each once.
+-- Facts about a checked model: the numbers of classes and objects, and that their names are well formed and unique.
 use Rattle.std.proofs.Common.{◌≡◌, ◌≤◌, Bool, true, false, ◌&&◌, ◌||◌, not, nat_lt, length, Option, Some, None, refl, sym}
 use Rattle.std.specs.List.{list_any, list_all}
 use Rattle.std.specs.Option.{option_or}

@@ -1,4 +1,4 @@
--- The fault of a diagnosis is the one that reading finds.
+-- The fault of a diagnosis is the one that reading returns.
 use Rattle.std.proofs.Common.{◌≡◌, ◌<◌, ℕ, suc, ◌+◌, ◌==◌, nat_lt, nat_le, Bool, true, false, ◌||◌, ◌&&◌, cond, List, [], ◌∷◌, length, Option, Some, None, option_map, ok_or, Result, Ok, Err, IfOk, ℤ, refl, sym, ap, ◌∙◌, arith}
 use Rattle.std.specs.Prelude.{⊤}
 use Rattle.std.specs.List.{list_any, list_all, before_first, after_first, position_or_len}
@@ -48,12 +48,12 @@ diagnosed_fault found = option_map (λ d. d.fault) found
 abbrev when : Bool → LineFault → Option LineFault
 when b f = cond b (Some f) None
 
--- the faults of words that stand for these
+-- the faults of the words for these parts
 abbrev faults : {A : Type 0} → Parts A → List LinePart → List (List ℕ) → List (Option LineFault)
 faults m (part ∷ parts) (word ∷ words) = fault_of_word m part word ∷ faults m parts words
 faults m _ _ = []
 
--- whether one of them is this
+-- whether one of the faults is this
 abbrev has : LineFault → List (Option LineFault) → Bool
 has f [] = false
 has f (o ∷ os) = is_fault f o || has f os
@@ -163,12 +163,12 @@ only_op_kind : (word : List ℕ) → Only Word (parse_op_kind word)
 only_op_kind word =
     known_or (bytes_eq word (op_word op_kind.Read)) (bytes_eq word (op_word op_kind.Get)) (bytes_eq word (op_word op_kind.Size)) (bytes_eq word (op_word op_kind.Write)) (bytes_eq word (op_word op_kind.Add)) (bytes_eq word (op_word op_kind.Insert)) (bytes_eq word (op_word op_kind.Remove)) (bytes_eq word (op_word op_kind.Has))
 
--- a fault of another kind than this
+-- a fault of another kind
 other : {X : Type 0} (f g : LineFault) (r : Result X LineFault) → Only g r → (fault_number g == fault_number f) ≡ false → is_fault f (result_err r) ≡ false
 other f g (Ok x) only differs = refl
 other f g (Err h) only differs = ap (λ k. fault_number k == fault_number f) only ∙ differs
 
--- what stands for a number or a name has no unknown word
+-- a word for a number or a name is never unknown
 abbrev is_plain : LinePart → Bool
 is_plain part.Transaction = true
 is_plain part.Integer = true
@@ -231,13 +231,13 @@ module _ {A : Type 0} (m : Parts A) where
 many : (a k : ℕ) → a < k → differ a k ≡ true
 many a k more = grind (arith, nat_tests)
 
--- the number that is read first
+-- the number is read first
 number_first : {X Y : Type 0} (r : Result X LineFault) (k : X → Result Y LineFault) (os : List (Option LineFault)) → Only Number r → ((x : X) → number_or_name os ≡ result_err (k x)) → number_or_name (result_err r ∷ os) ≡ result_err (r >>= k)
 unfolding number_or_name
 number_first (Ok x) k os only h = h x
 number_first (Err f) k os only h = ap (λ g. number_or_name (Some g ∷ os)) only ∙ ap (λ g. Some g) (sym only)
 
--- the name that is read last
+-- the name is read last
 name_last : {X Y : Type 0} (r : Result X LineFault) (k : X → Y) → Only Name r → number_or_name (result_err r ∷ []) ≡ result_err (r >>= (λ x. Ok (k x)))
 unfolding number_or_name
 name_last (Ok x) k only = refl
@@ -282,7 +282,7 @@ swap true false = refl
 swap false true = refl
 swap false false = refl
 
--- the order of words counts for nothing
+-- the order of words does not matter
 exchanged : (a b : Option LineFault) → number_or_name (a ∷ b ∷ []) ≡ number_or_name (b ∷ a ∷ [])
 unfolding number_or_name
 exchanged a b = λ i. option_or (when (swap (is_fault Number a) (is_fault Number b) i) Number) (when (swap (is_fault Name a) (is_fault Name b) i) Name)
@@ -303,7 +303,7 @@ moved : (a b c : Option LineFault) → number_or_name (a ∷ b ∷ None ∷ c �
 unfolding number_or_name
 moved a b c = λ i. option_or (when (last_first (is_fault Number a) (is_fault Number b) (is_fault Number c) i) Number) (when (last_first (is_fault Name a) (is_fault Name b) (is_fault Name c) i) Name)
 
--- the name that is read last, before a known word
+-- the name is read last, before a known word
 name_before : {X Y : Type 0} (r : Result X LineFault) (k : X → Y) → Only Name r → number_or_name (result_err r ∷ None ∷ []) ≡ result_err (r >>= (λ x. Ok (k x)))
 unfolding number_or_name
 name_before (Ok x) k only = refl
@@ -393,7 +393,7 @@ unknown : (os : List (Option LineFault)) (a b : ℕ) → has Word os ≡ true �
 unknown os a b is = ap (λ t. option_or (when t Word) (option_or (when (differ a b) Arity) (number_or_name os))) is
 
 module _ {A : Type 0} (m : Parts A) (e : Expected) (n : ℕ) where
-  -- a kind of dependency at the front, known or not
+  -- a kind of dependency first, known or not
   diagnosed_kind : (word : List ℕ) (words : List (List ℕ)) (r : Result Dep LineFault) → Only Word r → parse_kind word ≡ r → diagnosed_fault (wrong_in m (part.Kind ∷ part.Transaction ∷ part.Transaction ∷ []) e n (word ∷ words)) ≡ result_err (r >>= (λ kind. form_of_kind {A = A} kind words))
   diagnosed_kind word words (Err f) only is =
       diagnosed_in m (part.Kind ∷ part.Transaction ∷ part.Transaction ∷ []) e n (word ∷ words)
@@ -417,19 +417,19 @@ module _ {A : Type 0} (m : Parts A) (e : Expected) (n : ℕ) where
   diagnosed_form [] = short m (part.Kind ∷ part.Transaction ∷ part.Transaction ∷ []) e n [] refl refl
   diagnosed_form (word ∷ words) = diagnosed_kind word words (parse_kind word) (only_kind word) refl
 
-  -- the first three words behind a `do`
+  -- the first three words after a `do`
   abbrev asked : List LinePart → List LinePart
   asked parts = part.Transaction ∷ part.Object ∷ part.Operation ∷ parts
 
   abbrev doing : List ℕ → List ℕ → Result Op LineFault → Result (Event A) LineFault
   doing t ob r = r >>= (λ op. parse_txn t >>= (λ t. parse_object m ob >>= (λ object. Ok (Operate t object op))))
 
-  -- no word of these is unknown, where the operation is known
+  -- no word is unknown if the operation is known
   known : (t ob op : List ℕ) (parts : List LinePart) (ws : List (List ℕ)) (kind : OpKind) → parse_op_kind op ≡ Ok kind → list_all is_plain parts ≡ true → has Word (faults m (asked parts) (t ∷ ob ∷ op ∷ ws)) ≡ false
   known t ob op parts ws kind is plain =
       λ i. no_unknown m part.Transaction t refl i || (no_unknown m part.Object ob refl i || (ap (λ r. is_fault Word (result_err r)) is i || all_known m parts ws plain i))
 
-  -- an operation with no number
+  -- an operation without an INT
   diagnosed_alone : (t ob op : List ℕ) (x : Op) (kind : OpKind) → parse_op_kind op ≡ Ok kind → (ws : List (List ℕ)) → diagnosed_fault (wrong_in m (asked []) e n (t ∷ ob ∷ op ∷ ws)) ≡ result_err (doing t ob (alone x ws))
   diagnosed_alone t ob op x kind is [] =
       exact m (asked []) e n (t ∷ ob ∷ op ∷ []) (known t ob op [] [] kind is refl) refl
@@ -438,7 +438,7 @@ module _ {A : Type 0} (m : Parts A) (e : Expected) (n : ℕ) where
   diagnosed_alone t ob op x kind is (w ∷ ws) =
       short m (asked []) e n (t ∷ ob ∷ op ∷ w ∷ ws) (known t ob op [] (w ∷ ws) kind is refl) (many 3 (suc (suc (suc (suc (length ws))))) (omega arith))
 
-  -- an operation with a number
+  -- an operation with an INT
   diagnosed_number : (t ob op : List ℕ) (x : ℤ → Op) (kind : OpKind) → parse_op_kind op ≡ Ok kind → (ws : List (List ℕ)) → diagnosed_fault (wrong_in m (asked (part.Integer ∷ [])) e n (t ∷ ob ∷ op ∷ ws)) ≡ result_err (doing t ob (with_integer x ws))
   diagnosed_number t ob op x kind is [] =
       short m (asked (part.Integer ∷ [])) e n (t ∷ ob ∷ op ∷ []) (known t ob op (part.Integer ∷ []) [] kind is refl) refl
@@ -509,7 +509,7 @@ module _ {A : Type 0} (m : Parts A) where
       (diagnosed_return (position_or_len is_equals words + 1) (after_first is_equals words))
       (diagnosed_event 0 words)
 
--- a seat's fault is Number: so of two faults either may come first
+-- a seat's fault is Number, so the order of the two faults does not matter
 with_number : (f : LineFault) → lower Number f ≡ lower f Number
 with_number Empty = refl
 with_number Word = refl
@@ -634,7 +634,7 @@ module _ {A : Type 0} (m : Parts A) where
   diagnosed_command [] = refl
   diagnosed_command (word ∷ words) = diagnosed_command_of (parse_command_kind word) words
 
--- the fault of a diagnosis, where memory suffices for it
+-- the fault of a diagnosis, if memory does not run out
 pub diagnosed_if : {E : Type 0} (r : Result (Option Diagnostic) E) (d : Option Diagnostic) (fault : Option LineFault) → IfOk r (λ found. found ≡ d) → diagnosed_fault d ≡ fault → IfOk r (λ found. diagnosed_fault found ≡ fault)
 diagnosed_if (Ok found) d fault same reported = ap diagnosed_fault same ∙ reported
 diagnosed_if (Err e) d fault same reported = tt

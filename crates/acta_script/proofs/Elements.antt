@@ -6,7 +6,7 @@ use Rattle.std.specs.List.{join_with_byte, flat_map}
 use Rattle.std.proofs.lemmas.List.{append-nil, take_all}
 use Rattle.acta_script.specs.Writing.{elements_word}
 
--- some numbers, each behind a comma
+-- some numbers, each after a comma
 abbrev pub behind_commas : List ℤ → List ℕ
 behind_commas xs = flat_map (λ x. 44 ∷ signed_decimal x) xs
 

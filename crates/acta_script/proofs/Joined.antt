@@ -1,4 +1,4 @@
--- Numbers that are read or written one after another.
+-- Numbers that are read or written in sequence.
 use Rattle.std.proofs.Common.{◌≡◌, ℕ, List, [], ◌∷◌, ◌++◌, map, decimal, length, get_or, take, drop, ◌≤◌, ◌-◌, arith, Option, option_map, sym, ap, ◌∙◌}
 use Rattle.std.specs.List.{join_with_byte, flat_map}
 use Rattle.std.proofs.lemmas.List.{append-nil, take_all}
@@ -6,11 +6,11 @@ use Rattle.acta_table.specs.declared.event.OpNo.{OpNo}
 use Rattle.acta_table.specs.Sets.{numbers_of, numbered}
 use Rattle.acta_script.specs.Writing.{operations_word}
 
--- the operations so far, with what the words that are left give
+-- the operations so far, combined with those of the remaining words
 abbrev pub with_left : List OpNo → Option (List ℕ) → Option (List OpNo)
 with_left ops left = option_map (λ ns. ops ++ numbered ns) left
 
--- some numbers, each behind a comma
+-- some numbers, each after a comma
 abbrev pub behind_commas : List OpNo → List ℕ
 behind_commas ops = flat_map (λ op. 44 ∷ decimal op.0) ops
 

@@ -1,4 +1,4 @@
--- The name of a class or an object leads back to it, since no two have one name.
+-- Looking up the name of a class or an object gives it back, since names are unique.
 use Rattle.std.proofs.Common.{◌≡◌, ◌<◌, ◌+◌, ℕ, zero, suc, Bool, true, false, ◌&&◌, cond, ◌==◌, List, [], ◌∷◌, map, length, slice_get, Some, refl, ap, ◌∙◌, arith}
 use Rattle.std.specs.List.{list_any, list_all, position_from}
 use Rattle.std.specs.Option.{option_map_or}
@@ -48,7 +48,7 @@ module _ {X : Type 0} (f : X → List ℕ) where
   pub place : (xs : List X) (i : ℕ) → has_twice (map f xs) ≡ false → i < length xs → position_from (λ x. bytes_eq (name_at xs i) (f x)) 0 xs ≡ Some i
   place xs i once within = let same : 0 + i ≡ i = omega arith in place-from 0 xs i once within ∙ ap Some same
 
-  -- what holds of each name holds of its name
+  -- a property of all names is a property of its name
   pub at-name : (test : List ℕ → Bool) (xs : List X) (i : ℕ) → list_all test (map f xs) ≡ true → i < length xs → test (name_at xs i) ≡ true
   at-name test [] i all within = absurd (omega arith)
   at-name test (x ∷ xs) zero all within = (and_parts (test (f x)) (list_all test (map f xs)) all).0

@@ -1,4 +1,4 @@
--- A set of operations that is written is read again.
+-- Reading a written set of operations gives it back.
 use Rattle.std.proofs.Common.{◌≡◌, ◌≤◌, ◌<◌, ℕ, Bool, true, false, ◌&&◌, cond, ◌==◌, nat_le, List, [], ◌∷◌, ◌++◌, map, length, decimal, codes, Option, Some, option_map, option_and_then, ok_or, Result, Ok, refl, ap, ◌∙◌, arith, length-append}
 use Rattle.std.specs.List.{AllByRecursion, list_all, slice_split, onto_first}
 use Rattle.std.specs.List.Sorted.{IsStrictlySortedBy}

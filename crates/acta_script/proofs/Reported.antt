@@ -1,4 +1,4 @@
--- Faults that are told as they were found.
+-- Errors report the faults that were found.
 use Rattle.std.proofs.Common.{◌≡◌, Result, Ok, Err, refl, sym, subst, ap}
 use Rattle.std.specs.Option.{option_map_or}
 use Rattle.std.specs.Result.{IfErr, IsErrAnd, result_err}
@@ -15,12 +15,12 @@ on : {X Y : Type 0} (parsed : Result X LineFault) (then : X → Result Y LineFau
 on parsed then Memory why = tt
 on parsed then (Fault f) why = ap (λ r. r >>= then) why
 
--- why the first gave nothing is why what comes of it gave nothing
+-- the error of the first step is the error of the whole
 pub reported-on : {X Y Z : Type 0} (parsed : Result X LineFault) (then : X → Result Y LineFault) (r : Result Z LineError) (e : LineError) → IsWhy parsed e → IsErrAnd r (λ d. d ≡ e) → IfErr r (IsWhy (parsed >>= then))
 reported-on parsed then (Ok x) e why h = absurd h
 reported-on parsed then (Err d) e why h = subst (IsWhy (parsed >>= then)) (sym h) (on parsed then e why)
 
--- of two faults the lower is told
+-- of two faults the lower is reported
 pub both-fault : {X Y Z : Type 0} (make : X → Y → Z) (f : LineFault) (other : Result Y LineFault) → both make (Err f) other ≡ Err (option_map_or (lower f) (result_err other) f)
 both-fault make f (Ok y) = refl
 both-fault make f (Err g) = refl

@@ -1,4 +1,4 @@
--- The first `=` among words, and the kept item that they say.
+-- The first `=` among words, and the kept item of the words.
 use Rattle.std.proofs.Common.{◌≡◌, ◌≤◌, ◌+◌, ◌-◌, ℕ, suc, Bool, true, false, ◌||◌, not, cond, nat_lt, List, [], ◌∷◌, map, take, drop, length, position, Some, None, refl, sym, ap, ◌∙◌, arith}
 use Rattle.std.specs.List.{list_any, position_or_len, before_first, after_first}
 use Rattle.std.proofs.lemmas.Bool.Decides.{nat_tests}
@@ -32,7 +32,7 @@ module _ {A X : Type 0} (m : Parts A) (f : X → List ℕ) (xs : List X) where
   any-sign : list_any is_equals (map f xs) ≡ nat_lt (position_or_len (λ x. is_equals (f x)) xs) (length xs)
   any-sign = any-first is_equals (map f xs) ∙ (λ i. nat_lt (position_or_len-map is_equals f xs i) (length-map xs f i))
 
-  -- words with a sign are the words of an event, and those of its return
+  -- words with a `=` are the words of an event, and those of its return
   pub kept-with_sign : (at : ℕ) → position (λ x. is_equals (f x)) xs ≡ Some at → parse_kept m (map f xs) ≡ both with_return (parse_event m (map f (take at xs))) (parse_return (map f (take (length xs - (at + 1)) (drop (at + 1) xs))))
   unfolding parse_kept
   kept-with_sign at is =
@@ -44,14 +44,14 @@ module _ {A X : Type 0} (m : Parts A) (f : X → List ℕ) (xs : List X) where
       ∙ (λ i. both with_return (parse_event m (take-map f at xs i)) (parse_return (drop-map f (at + 1) xs i)))
       ∙ ap (λ (ys : List X). both with_return (parse_event m (map f (take at xs))) (parse_return (map f ys))) (sym (take_all (length xs - (at + 1)) (drop (at + 1) xs) few))
 
-  -- words without one are those of an event alone
+  -- words without a `=` are those of an event alone
   pub kept-without_sign : position (λ x. is_equals (f x)) xs ≡ None → parse_kept m (map f xs) ≡ (parse_event m (map f xs) >>= plain)
   unfolding parse_kept
   kept-without_sign is =
       ap (λ (b : Bool). cond b (both with_return (parse_event m (before_first is_equals (map f xs))) (parse_return (after_first is_equals (map f xs)))) (parse_event m (map f xs) >>= plain))
       (any-sign ∙ lacking (nat_lt (position_or_len (λ x. is_equals (f x)) xs) (length xs)) (position_or_len (λ x. is_equals (f x)) xs) is)
 
-  -- what is wrong with words with a sign is wrong with the event, or with its return
+  -- the diagnosis of words with a `=` is that of the event, or that of the return
   pub wrong-with_sign : (at : ℕ) → position (λ x. is_equals (f x)) xs ≡ Some at → wrong_kept m (map f xs) ≡ lower_of (wrong_event m 0 (map f (take at xs))) (wrong_return m (at + 1) (map f (take (length xs - (at + 1)) (drop (at + 1) xs))))
   wrong-with_sign at is =
       let cut = found (nat_lt (position_or_len (λ x. is_equals (f x)) xs) (length xs)) (position_or_len (λ x. is_equals (f x)) xs) at is in

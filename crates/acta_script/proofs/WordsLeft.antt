@@ -1,4 +1,4 @@
--- Where all words have been looked at, none is left that has a fault.
+-- After all words have been examined, none is left that has a fault.
 use Rattle.std.proofs.Common.{◌≡◌, ◌≤◌, ℕ, zero, suc, min, List, [], ◌∷◌, map, drop, length, None, refl, arith}
 use Rattle.acta_table.specs.declared.model.Parts.{Parts}
 use Rattle.acta_script.specs.declared.diagnosis.LinePart.{LinePart}

@@ -1,4 +1,4 @@
--- The place of a diagnosis is wrong for the reason that its fault says.
+-- The place of a diagnosis is wrong for the reason that its fault gives.
 use Rattle.std.proofs.Common.{◌≡◌, ◌≤◌, ◌<◌, ℕ, zero, suc, ◌+◌, ◌==◌, nat_lt, nat_le, Bool, true, false, cond, List, [], ◌∷◌, length, take, drop, Option, Some, None, option_and_then, slice_get, IfSome, IfOk, Result, Ok, Err, refl, sym, subst, ap, ◌∙◌, arith}
 use Rattle.std.specs.List.{list_any, before_first, after_first, position_or_len}
 use Rattle.std.specs.Option.{option_or}
@@ -58,7 +58,7 @@ found_fault : (fault : LineFault) (o : Option LineFault) → is_fault fault o �
 found_fault fault None is = absurd (true≢false (sym is))
 found_fault fault (Some f) is = ap Some (same_fault f fault is)
 
--- a word that has a fault among kinds, asked for one after another, is not the first one's
+-- if trying several kinds in order gives a fault, so does trying those after the first
 unless : {A : Type 0} (b : Bool) (x : A) (r : Result A LineFault) (fault : LineFault) → cond b (Ok x) r ≡ Err fault → r ≡ Err fault
 unless true x r fault is = absurd (cc)
 unless false x r fault is = is
@@ -66,7 +66,7 @@ unless false x r fault is = is
 past : {A : Type 0} (word : List ℕ) (word_of : A → List ℕ) (kind : A) (r : Result A LineFault) (fault : LineFault) → cond (bytes_eq word (word_of kind)) (Ok kind) r ≡ Err fault → r ≡ Err fault
 past word word_of kind r fault = unless (bytes_eq word (word_of kind)) kind r fault
 
--- where it is none's, it is an unknown word
+-- if none of the kinds is the word's, the word is unknown
 unknown : {A : Type 0} (r : Result A LineFault) (fault : LineFault) → r ≡ Err Word → r ≡ Err fault → fault ≡ Word
 unknown r fault none is = cc
 
@@ -79,7 +79,7 @@ no_command_kind word fault is = unknown _ fault refl (past word command_word com
 no_break_kind : (word : List ℕ) (fault : LineFault) → parse_break_kind word ≡ Err fault → fault ≡ Word
 no_break_kind word fault is = unknown _ fault refl (past word break_word break_kind.Ended _ fault (past word break_word break_kind.Owed _ fault (past word break_word break_kind.Object _ fault (past word break_word break_kind.Txn _ fault (past word break_word break_kind.Kind _ fault is)))))
 
--- the words are words of the line, of which the first has number n
+-- the words are those of the line, of which the first has number n
 pub record AreAt (n : ℕ) (words all : List (List ℕ)) : Type 0 where
   pub each : (k : ℕ) (word : List ℕ) → slice_get words k ≡ Some word → slice_get all (n + k) ≡ Some word
   pub within : n + length words ≤ length all
@@ -97,7 +97,7 @@ next_at n word words all at = record {
 }
 
 module _ {A : Type 0} (m : Parts A) (all : List (List ℕ)) where
-  -- the diagnosis is of a word of the line, and of what it stands for
+  -- the diagnosis is of a word of the line, for its part
   abbrev IsOfWord : LineFault → Diagnostic → Type 0
   IsOfWord fault d = (n : ℕ) × (part : LinePart) × (d ≡ record { fault = fault; place = Wrong n; expected = Part part }) × (option_and_then (λ word. fault_of_word m part word) (slice_get all n) ≡ Some fault)
 
@@ -140,7 +140,7 @@ module _ {A : Type 0} (m : Parts A) (all : List (List ℕ)) where
       (either _ _ (wrong_as (wrong_word m Number n parts words) Number (word_wrong Number n parts words at) (λ n part is. is))
       (wrong_as (wrong_word m Name n parts words) Name (word_wrong Name n parts words at) (λ n part is. is))))
 
-  -- the word of this number is none of those that may stand there
+  -- the word with this number cannot be read as any part that is allowed there
   first_wrong : (part : LinePart) (n : ℕ) (word : List ℕ) (words : List (List ℕ)) → AreAt n (word ∷ words) all → (fault : LineFault) → fault ≡ Word → fault_of_word m part word ≡ Some fault → IsWrong m all (record { fault = fault; place = Wrong n; expected = Part part })
   first_wrong part n word words at fault none is =
       let here : slice_get all n ≡ Some word = ap (slice_get all) (sym (nothing n)) ∙ at.each 0 word refl in
@@ -236,7 +236,7 @@ pub command_wrong : {A : Type 0} (m : Parts A) (all : List (List ℕ)) → IfSom
 command_wrong m [] = refl
 command_wrong m (word ∷ words) = kind_wrong m word words (parse_command_kind word) refl
 
--- a diagnosis, where memory suffices for it
+-- a diagnosis, if memory does not run out
 pub wrong_if : {E : Type 0} {A : Type 0} (m : Parts A) (all : List (List ℕ)) (r : Result (Option Diagnostic) E) (d : Option Diagnostic) → IfOk r (λ found. found ≡ d) → IfSome d (IsWrong m all) → IfOk r (λ found. IfSome found (IsWrong m all))
 wrong_if m all (Ok found) d same is = subst (λ (o : Option Diagnostic). IfSome o (IsWrong m all)) (sym same) is
 wrong_if m all (Err e) d same is = tt

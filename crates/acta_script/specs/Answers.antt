@@ -1,4 +1,4 @@
--- The lines of answers, debts and faults, as they are written.
+-- The lines of answers, debts and faults.
 use Rattle.std.specs.Prelude.{ℕ, List, [], ◌∷◌, codes, decimal}
 use Rattle.std.specs.Option.{option_map_or}
 use Rattle.acta_table.specs.declared.answer.Answer.{Answer}
@@ -19,7 +19,7 @@ answer_words (Refused rule by) =
 unfoldable pub answer_line : Answer → List ℕ
 answer_line answer = line_of (answer_words answer)
 
--- the event that would pay a debt
+-- the word of a missing event
 abbrev pub missing_word : Missing → List ℕ
 missing_word Commit = codes "commit"
 missing_word Abort = codes "abort"
@@ -28,6 +28,6 @@ missing_word Abort = codes "abort"
 unfoldable pub owed_line : Owed → List ℕ
 owed_line o = line_of (codes "owed" ∷ decimal o.edge.0 ∷ decimal o.txn.0 ∷ missing_word o.missing ∷ [])
 
--- fault AXIOM PLACE BY; an axiom is told by its number
+-- fault AXIOM PLACE BY, with the number of the axiom
 unfoldable pub fault_line : ℕ → ℕ → ℕ → List ℕ
 fault_line number place by = line_of (codes "fault" ∷ decimal number ∷ decimal place ∷ decimal by ∷ [])

@@ -1,5 +1,5 @@
--- The command to a debugger that a line says, or its fault. As in the lines of events, unknown words are looked for
--- first, then the number of words, then numbers, then names: so the fault is the lowest.
+-- The debugger command of a line, or its fault. Unknown words are checked first, then the number of words, then
+-- numbers, then names, so that the fault is the lowest.
 use Rattle.std.specs.Prelude.{ℕ, List, [], ◌∷◌, if◌then◌else◌, ok_or, Result, Ok, Err}
 use Rattle.std.specs.Str.{bytes_eq}
 use Rattle.acta_table.specs.declared.model.Parts.{Parts}
@@ -22,7 +22,7 @@ use Rattle.acta_script.specs.Words.{break_word, command_word}
 abbrev pub parse_count : List ℕ → Result ℕ LineFault
 parse_count word = ok_or (read_natural 0xffff_ffff word) Number
 
--- the one word that is left
+-- the only remaining word
 abbrev pub one_word : List (List ℕ) → Result (List ℕ) LineFault
 one_word (word ∷ []) = Ok word
 one_word _ = Err Arity
@@ -62,7 +62,7 @@ parse_ended_break words = do
   t ← parse_txn word
   Ok (Ended t)
 
--- the kind of break that has this word
+-- the kind of break with this word
 abbrev pub parse_break_kind : List ℕ → Result BreakKind LineFault
 parse_break_kind word =
     if bytes_eq word (break_word break_kind.Kind) then Ok break_kind.Kind
@@ -72,7 +72,7 @@ parse_break_kind word =
     else if bytes_eq word (break_word break_kind.Ended) then Ok break_kind.Ended
     else Err Word
 
--- the break of this kind that the words after the kind's word say
+-- the break of this kind, from the words after the kind's word
 abbrev pub break_of_kind : {A : Type 0} → Parts A → BreakKind → List (List ℕ) → Result BreakOn LineFault
 break_of_kind m break_kind.Kind words = parse_kind_break words
 break_of_kind m break_kind.Txn words = parse_txn_break words
@@ -80,7 +80,7 @@ break_of_kind m break_kind.Object words = parse_object_break m words
 break_of_kind m break_kind.Owed words = parse_owed_break words
 break_of_kind m break_kind.Ended words = parse_ended_break words
 
--- the break that the words after `break` say
+-- the break, from the words after `break`
 unfoldable pub parse_break : {A : Type 0} → Parts A → List (List ℕ) → Result BreakOn LineFault
 parse_break m [] = Err Arity
 parse_break m (word ∷ words) = do
@@ -114,7 +114,7 @@ parse_break_command m words = do
   on ← parse_break m words
   Ok (Break on)
 
--- the kind of command that has this first word
+-- the kind of command with this first word
 abbrev pub parse_command_kind : List ℕ → Result CommandKind LineFault
 parse_command_kind word =
     if bytes_eq word (command_word command_kind.Step) then Ok command_kind.Step
@@ -128,7 +128,7 @@ parse_command_kind word =
     else if bytes_eq word (command_word command_kind.Owed) then Ok command_kind.Owed
     else Err Word
 
--- the command of this kind that the words after the first say
+-- the command of this kind, from the words after the first
 abbrev pub command_of_kind : {A : Type 0} → Parts A → CommandKind → List (List ℕ) → Result DebugCommand LineFault
 command_of_kind m command_kind.Step words = alone Step words
 command_of_kind m command_kind.Back words = alone Back words
@@ -140,13 +140,13 @@ command_of_kind m command_kind.Value words = parse_value m words
 command_of_kind m command_kind.Status words = parse_status words
 command_of_kind m command_kind.Owed words = alone Owed words
 
--- the command that words say
+-- the command of these words
 unfoldable pub parse_command : {A : Type 0} → Parts A → List (List ℕ) → Result DebugCommand LineFault
 parse_command m [] = Err Empty
 parse_command m (word ∷ words) = do
   kind ← parse_command_kind word
   command_of_kind m kind words
 
--- the command that a line says, or its lowest fault
+-- the command of a line, or its lowest fault
 abbrev pub command_of : {A : Type 0} → Parts A → List ℕ → Result DebugCommand LineFault
 command_of m line = parse_command m (words_of line)

@@ -1,5 +1,5 @@
--- The event, the kept item, the seated event or the step of a program that a line says, or its fault. In each form
--- unknown words are looked for first, then the number of words, then numbers, then names: so the fault is the lowest.
+-- The event, kept item, seated event or program step of a line, or its fault. Unknown words are checked first, then the
+-- number of words, then numbers, then names, so that the fault is the lowest.
 use Rattle.std.specs.Prelude.{◌≡◌, ℕ, Bool, true, false, ◌==◌, nat_le, List, [], ◌∷◌, if◌then◌else◌, codes, find, Option, Some, None, ok_or, option_map, Result, Ok, Err, ℤ, ⊤}
 use Rattle.std.specs.List.{list_any, slice_split, before_first, after_first, position_from}
 use Rattle.std.specs.Str.{bytes_eq}
@@ -39,7 +39,7 @@ fault_number Arity = 3
 fault_number Number = 4
 fault_number Name = 5
 
--- what comes of the first, if it has no fault, and else that fault
+-- the result of f on the value, or the fault
 infixl 10 ◌>>=◌
 abbrev pub ◌>>=◌ : {X Y : Type 0} → Result X LineFault → (X → Result Y LineFault) → Result Y LineFault
 (Ok x) >>= f = f x
@@ -49,11 +49,11 @@ abbrev pub ◌>>=◌ : {X Y : Type 0} → Result X LineFault → (X → Result Y
 abbrev pub parse_txn : List ℕ → Result TxnId LineFault
 parse_txn word = ok_or (option_map (λ n. record { 0 = n }) (read_natural 0xffff word)) Number
 
--- INT: digits, with a minus before them or not, with a value of 32 bits
+-- INT: digits, with an optional minus, with a value of 32 bits
 abbrev pub parse_integer : List ℕ → Result ℤ LineFault
 parse_integer word = ok_or (read_integer 0x8000_0000 word) Number
 
--- CLASS and OBJECT: the number of the one that has this name
+-- CLASS and OBJECT: the number of the class or the object with this name
 abbrev pub parse_class : {A : Type 0} → Parts A → List ℕ → Result ClassId LineFault
 parse_class m word =
     ok_or (option_map (λ n. record { 0 = n }) (position_from (λ c. bytes_eq word c.name) 0 m.classes)) Name
@@ -71,23 +71,23 @@ abbrev pub parse_numbers : List ℕ → Result (List OpNo) LineFault
 parse_numbers word =
     ok_or (option_map numbered (each_read (read_natural 0xffff_ffff) (slice_split (λ b. b == 44) word))) Number
 
--- OPS: a minus, or numbers of 32 bits joined by commas, in any order; a number that stands twice counts once
+-- OPS: a minus, or numbers of 32 bits joined by commas, in any order; a repeated number counts once
 abbrev pub parse_operations : List ℕ → Result (List OpNo) LineFault
 parse_operations word =
     if bytes_eq word (codes "-") then Ok []
     else parse_numbers word >>= (λ ops. Ok (each_once ops))
 
--- the value, where no word is left
+-- the value, if no word is left
 abbrev pub alone : {X : Type 0} → X → List (List ℕ) → Result X LineFault
 alone x [] = Ok x
 alone x _ = Err Arity
 
--- the INT that is the one word left
+-- the INT that is the only remaining word
 abbrev pub integer_alone : List (List ℕ) → Result ℤ LineFault
 integer_alone (word ∷ []) = parse_integer word
 integer_alone _ = Err Arity
 
--- the operation with the INT that is the one word left
+-- the operation with the INT that is the only remaining word
 abbrev pub with_integer : (ℤ → Op) → List (List ℕ) → Result Op LineFault
 with_integer op words = do
   v ← integer_alone words
@@ -106,7 +106,7 @@ parse_op_kind word =
     else if bytes_eq word (op_word op_kind.Has) then Ok op_kind.Has
     else Err Word
 
--- the operation of this kind that the words behind it say
+-- the operation of this kind, from the words after its own
 abbrev pub operation_of_kind : OpKind → List (List ℕ) → Result Op LineFault
 operation_of_kind op_kind.Read words = alone Read words
 operation_of_kind op_kind.Write words = with_integer (λ v. Write v) words
@@ -167,7 +167,7 @@ parse_delegate (t ∷ u ∷ ops ∷ []) = do
   Ok (Delegate t u ops)
 parse_delegate _ = Err Arity
 
--- J I, behind a kind
+-- J I, after a kind
 abbrev pub form_of_kind : {A : Type 0} → Dep → List (List ℕ) → Result (Event A) LineFault
 form_of_kind kind (j ∷ i ∷ []) = do
   j ← parse_txn j
@@ -214,7 +214,7 @@ parse_permit m (t ∷ u ∷ object ∷ []) = do
   Ok (Permit t u object)
 parse_permit m _ = Err Arity
 
--- the kind of event that a line with this first word says
+-- the kind of event whose line has this first word
 abbrev pub parse_event_kind : List ℕ → Result EventKind LineFault
 parse_event_kind word =
     if bytes_eq word (event_word begin_kind) then Ok begin_kind
@@ -229,7 +229,7 @@ parse_event_kind word =
     else if bytes_eq word (event_word permit_kind) then Ok permit_kind
     else Err Word
 
--- the event of this kind that the words behind the first say
+-- the event of this kind, from the words after the first
 abbrev pub event_of_kind : {A : Type 0} → Parts A → EventKind → List (List ℕ) → Result (Event A) LineFault
 event_of_kind m begin_kind words = parse_begin m words
 event_of_kind m spawn_kind words = parse_spawn m words
@@ -242,14 +242,14 @@ event_of_kind m commit_kind words = parse_commit words
 event_of_kind m abort_kind words = parse_abort words
 event_of_kind m permit_kind words = parse_permit m words
 
--- the event that words say
+-- the event of these words
 unfoldable pub parse_event : {A : Type 0} → Parts A → List (List ℕ) → Result (Event A) LineFault
 parse_event m [] = Err Empty
 parse_event m (word ∷ words) = do
   kind ← parse_event_kind word
   event_of_kind m kind words
 
--- the event that a line says, or its lowest fault
+-- the event of a line, or its lowest fault
 abbrev pub event_of : {A : Type 0} → Parts A → List ℕ → Result (Event A) LineFault
 event_of m line = parse_event m (words_of line)
 
@@ -257,14 +257,14 @@ event_of m line = parse_event m (words_of line)
 abbrev pub lower : LineFault → LineFault → LineFault
 lower f g = if nat_le (fault_number f) (fault_number g) then f else g
 
--- what is made of both, if neither has a fault; of two faults the lower counts
+-- the combination of both, if neither has a fault, otherwise the lower fault
 abbrev pub both : {X Y Z : Type 0} → (X → Y → Z) → Result X LineFault → Result Y LineFault → Result Z LineFault
 both make (Ok x) (Ok y) = Ok (make x y)
 both make (Ok x) (Err fault) = Err fault
 both make (Err fault) (Ok y) = Err fault
 both make (Err f) (Err g) = Err (lower f g)
 
--- the return that a word says: a number has 64 bits
+-- the return of a word; a number has 64 bits
 abbrev pub return_named : List ℕ → Option Ret
 return_named word =
     if bytes_eq word done_word then Some Done
@@ -272,12 +272,12 @@ return_named word =
     else if bytes_eq word (flag_word false) then Some (Flag false)
     else option_map (λ v. Value v) (read_integer 0x8000_0000_0000_0000 word)
 
--- the return that the words behind a `=` say
+-- the return, from the words after a `=`
 unfoldable pub parse_return : List (List ℕ) → Result Ret LineFault
 parse_return (word ∷ []) = ok_or (return_named word) Number
 parse_return _ = Err Arity
 
--- whether the word stands between an event and its return
+-- whether the word separates an event from its return
 abbrev pub is_equals : List ℕ → Bool
 is_equals word = bytes_eq word (codes "=")
 
@@ -289,14 +289,14 @@ with_return event ret = record { event = event; ret = Some ret }
 abbrev pub plain : {A : Type 0} → Event A → Result (Kept A) LineFault
 plain event = Ok (record { event = event; ret = None })
 
--- the kept item that words say: an event and, behind the first `=`, if one stands there, its return
+-- the kept item of these words: an event and, if there is a `=`, the return after the first one
 unfoldable pub parse_kept : {A : Type 0} → Parts A → List (List ℕ) → Result (Kept A) LineFault
 parse_kept m words =
     if list_any is_equals words
     then both with_return (parse_event m (before_first is_equals words)) (parse_return (after_first is_equals words))
     else parse_event m words >>= plain
 
--- the kept item that a line says, or its lowest fault
+-- the kept item of a line, or its lowest fault
 abbrev pub kept_of : {A : Type 0} → Parts A → List ℕ → Result (Kept A) LineFault
 kept_of m line = parse_kept m (words_of line)
 
@@ -306,7 +306,7 @@ parse_seat seats word = do
   seat ← ok_or (read_natural seats word) Number
   if nat_le 1 seat then Ok seat else Err Number
 
--- the event that the words behind a seat say: no word is too few
+-- the event, from the words after a seat; without words there are too few
 abbrev pub event_behind : {A : Type 0} → Parts A → List (List ℕ) → Result (Event A) LineFault
 event_behind m [] = Err Arity
 event_behind m (word ∷ words) = parse_event m (word ∷ words)
@@ -315,12 +315,12 @@ event_behind m (word ∷ words) = parse_event m (word ∷ words)
 abbrev pub at_seat : {A : Type 0} → Event A → ℕ → Seated A
 at_seat event seat = record { seat = seat; event = event }
 
--- the seated event that words say: a seat, and behind it an event
+-- the seated event of these words: a seat, followed by an event
 unfoldable pub parse_seated : {A : Type 0} → Parts A → ℕ → List (List ℕ) → Result (Seated A) LineFault
 parse_seated m seats [] = Err Empty
 parse_seated m seats (seat ∷ words) = both at_seat (event_behind m words) (parse_seat seats seat)
 
--- the seated event that a line says, or its lowest fault
+-- the seated event of a line, or its lowest fault
 abbrev pub seated_of : {A : Type 0} → Parts A → ℕ → List ℕ → Result (Seated A) LineFault
 seated_of m seats line = parse_seated m seats (words_of line)
 
@@ -337,7 +337,7 @@ abbrev pub alternatives_in : {A : Type 0} → Parts A → List (List (List ℕ))
 alternatives_in m [] = Ok []
 alternatives_in m (part ∷ parts) = both one_more (event_behind m part) (alternatives_in m parts)
 
--- the alternatives that words say: the events between the blocks
+-- the alternatives of these words: the events between the separators
 abbrev pub parse_alternatives : {A : Type 0} → Parts A → List (List ℕ) → Result (List (Event A)) LineFault
 parse_alternatives m words = alternatives_in m (slice_split is_bar words)
 
@@ -345,16 +345,16 @@ parse_alternatives m words = alternatives_in m (slice_split is_bar words)
 abbrev pub step_at : {A : Type 0} → List (Event A) → ℕ → ProgramLine A
 step_at events seat = record { seat = seat; alternatives = events }
 
--- the step of a program that words say: a seat, and then its alternatives
+-- the program step of these words: a seat, and then its alternatives
 unfoldable pub parse_program_line : {A : Type 0} → Parts A → ℕ → List (List ℕ) → Result (ProgramLine A) LineFault
 parse_program_line m seats [] = Err Empty
 parse_program_line m seats (seat ∷ words) = both step_at (parse_alternatives m words) (parse_seat seats seat)
 
--- the step of a program that a line says, or its lowest fault
+-- the program step of a line, or its lowest fault
 abbrev pub program_line_of : {A : Type 0} → Parts A → ℕ → List ℕ → Result (ProgramLine A) LineFault
 program_line_of m seats line = parse_program_line m seats (words_of line)
 
--- an error says why the line gave nothing: its fault, or want of memory, which says nothing of the line
+-- the error is right: a fault is that of the line, and running out of memory says nothing of it
 abbrev pub IsWhy : {X : Type 0} → Result X LineFault → LineError → Type 0
 IsWhy parsed error.Memory = ⊤
 IsWhy parsed (error.Fault f) = parsed ≡ Err f

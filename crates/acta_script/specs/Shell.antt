@@ -1,4 +1,4 @@
--- The line of a session: an event, the question whether an event would be admitted, or a command; or what is wrong with it.
+-- Lines of a session: an event, a question whether an event would be admitted, or a command; or the line's diagnosis.
 use Rattle.std.specs.Prelude.{◌≡◌, ⊤, ℕ, List, [], ◌∷◌, find, if◌then◌else◌, Option, Some, None, Result, Ok, Err}
 use Rattle.std.specs.Option.{option_map_or, option_or}
 use Rattle.std.specs.Str.{bytes_eq}
@@ -38,11 +38,11 @@ shell_kinds =
     kind.Undo ∷ kind.Redo ∷ kind.Goto ∷ kind.State ∷ kind.Status ∷ kind.Value ∷ kind.Held ∷ kind.Conflicts ∷ kind.Edges
     ∷ kind.Permits ∷ kind.Owed ∷ kind.History ∷ kind.Events ∷ kind.Draw ∷ kind.Why ∷ kind.Next ∷ kind.Explore ∷ kind.Help ∷ kind.Quit ∷ []
 
--- the kind of command that has this word
+-- the kind of command with this word
 abbrev pub shell_kind_of : List ℕ → Option ShellKind
 shell_kind_of word = find (λ kind. bytes_eq word (shell_word kind)) shell_kinds
 
--- what comes of what was read, if nothing is wrong
+-- the result of f on the value, or the diagnosis
 abbrev pub and_then : {X Y : Type 0} → (X → Result Y Diagnostic) → Result X Diagnostic → Result Y Diagnostic
 and_then f (Ok x) = f x
 and_then f (Err d) = Err d
@@ -51,27 +51,27 @@ abbrev pub map_parsed : {X Y : Type 0} → (X → Y) → Result X Diagnostic →
 map_parsed f (Ok x) = Ok (f x)
 map_parsed f (Err d) = Err d
 
--- what was read from the word of this number, or that the word is wrong, which stands for this
+-- the value read from word number n, or the diagnosis that the word is wrong for this part
 abbrev pub at_word : {X : Type 0} → ℕ → LinePart → Result X LineFault → Result X Diagnostic
 at_word n part (Ok x) = Ok x
 at_word n part (Err fault) = Err (record { fault = fault; place = wrong_at n; expected = Part part })
 
--- the line has too few words or too many for a command of this kind
+-- the diagnosis for too few or too many words of this kind of command
 abbrev pub wrong_number : ShellKind → WordPlace → Diagnostic
 wrong_number kind place = record { fault = Arity; place = place; expected = ShellForm kind }
 
--- the one word that follows the command
+-- the only word after the command
 abbrev pub one_word : ShellKind → List (List ℕ) → Result (List ℕ) Diagnostic
 one_word kind [] = Err (wrong_number kind (missing_at 1))
 one_word kind (word ∷ []) = Ok word
 one_word kind (word ∷ more ∷ words) = Err (wrong_number kind (wrong_at 2))
 
--- a command that no word follows
+-- a command without arguments
 abbrev pub parse_alone : ShellKind → ShellCommand → List (List ℕ) → Result ShellCommand Diagnostic
 parse_alone kind command [] = Ok command
 parse_alone kind command (word ∷ words) = Err (wrong_number kind (wrong_at 1))
 
--- an argument, or none where no word follows the command
+-- an optional argument
 abbrev pub parse_maybe : {X : Type 0} → (List (List ℕ) → Result X Diagnostic) → List (List ℕ) → Result (Option X) Diagnostic
 parse_maybe read [] = Ok None
 parse_maybe read (word ∷ words) = map_parsed (λ x. Some x) (read (word ∷ words))
@@ -83,7 +83,7 @@ parse_one_count kind words = and_then (λ word. at_word 1 part.Count (parse_coun
 abbrev pub parse_maybe_count : ShellKind → List (List ℕ) → Result (Option ℕ) Diagnostic
 parse_maybe_count kind words = parse_maybe (parse_one_count kind) words
 
--- a count, which is 1 where it is left out
+-- a count, by default 1
 abbrev pub or_one : Option ℕ → ℕ
 or_one count = option_map_or (λ n. n) count 1
 
@@ -114,7 +114,7 @@ parse_one_topic kind words = and_then (λ word. at_word 1 part.Event (parse_topi
 abbrev pub parse_maybe_topic : ShellKind → List (List ℕ) → Result (Option Topic) Diagnostic
 parse_maybe_topic kind words = parse_maybe (parse_one_topic kind) words
 
--- the command of this kind that the words after the first say
+-- the command of this kind, from the words after the first
 abbrev pub shell_command_of : {A : Type 0} → Parts A → ShellKind → List (List ℕ) → Result ShellCommand Diagnostic
 shell_command_of m kind.Undo words = map_parsed (λ n. command.Undo (or_one n)) (parse_maybe_count kind.Undo words)
 shell_command_of m kind.Redo words = map_parsed (λ n. command.Redo (or_one n)) (parse_maybe_count kind.Redo words)
@@ -136,17 +136,17 @@ shell_command_of m kind.Explore words = parse_alone kind.Explore command.Explore
 shell_command_of m kind.Help words = map_parsed (λ topic. command.Help topic) (parse_maybe_topic kind.Help words)
 shell_command_of m kind.Quit words = parse_alone kind.Quit command.Quit words
 
--- what was found to be wrong; a faulty event has such a place, and without one only the fault would be known
+-- the diagnosis found; the default, for an event without one, has only the fault
 abbrev pub wrong_by : Option Diagnostic → LineFault → Diagnostic
 wrong_by (Some d) fault = d
 wrong_by None fault = record { fault = fault; place = missing_at 0; expected = Part part.Event }
 
--- an event that was read, or else what is wrong with its words
+-- the event that was read, or the diagnosis of its words
 abbrev pub event_or_wrong : {A X : Type 0} → (Event A → X) → Result (Event A) LineFault → Option Diagnostic → Result X Diagnostic
 event_or_wrong make (Ok event) found = Ok (make event)
 event_or_wrong make (Err fault) found = Err (wrong_by found fault)
 
--- an event, of which the line begins with this word
+-- an event, from all words of the line
 abbrev pub parse_event_line : {A : Type 0} → Parts A → List (List ℕ) → Result (ShellLine A) Diagnostic
 parse_event_line m words = event_or_wrong (λ event. line.Event event) (parse_event m words) (wrong_event m 0 words)
 
@@ -154,28 +154,28 @@ parse_event_line m words = event_or_wrong (λ event. line.Event event) (parse_ev
 abbrev pub parse_can_line : {A : Type 0} → Parts A → List (List ℕ) → Result (ShellLine A) Diagnostic
 parse_can_line m words = event_or_wrong (λ event. line.Can event) (event_behind m words) (wrong_after_seat m words)
 
--- a command, where the first word is that of one
+-- a command if the first word is that of one, otherwise an event
 abbrev pub parse_command_line : {A : Type 0} → Parts A → Option ShellKind → List ℕ → List (List ℕ) → Result (ShellLine A) Diagnostic
 parse_command_line m (Some kind) word words = map_parsed (λ parsed. line.Command parsed) (shell_command_of m kind words)
 parse_command_line m None word words = parse_event_line m (word ∷ words)
 
--- the line of a session that words say
+-- the session line of these words
 unfoldable pub parse_shell_line : {A : Type 0} → Parts A → List (List ℕ) → Result (ShellLine A) Diagnostic
 parse_shell_line m [] = parse_event_line m []
 parse_shell_line m (word ∷ words) =
     if bytes_eq word can_word then parse_can_line m words
     else parse_command_line m (shell_kind_of word) word words
 
--- the line of a session that a line says, or what is wrong with it
+-- the session line of a line, or its diagnosis
 abbrev pub shell_line_of : {A : Type 0} → Parts A → List ℕ → Result (ShellLine A) Diagnostic
 shell_line_of m line = parse_shell_line m (words_of line)
 
--- an error says why the line said nothing: what is wrong with it, or want of memory, which says nothing of the line
+-- the error is right: a diagnosis is that of the line, and running out of memory says nothing of it
 abbrev pub IsWhyNot : {X : Type 0} → Result X Diagnostic → ShellFault → Type 0
 IsWhyNot read (shell_fault.Wrong d) = read ≡ Err d
 IsWhyNot read shell_fault.Memory = ⊤
 
--- the objects and classes that an event of the line names are those of the model
+-- the objects and classes named by the line's event are in the model
 abbrev pub IsShellInModel : {A : Type 0} → Parts A → ShellLine A → Type 0
 IsShellInModel m (line.Event event) = IsInModel m event
 IsShellInModel m (line.Can event) = IsInModel m event

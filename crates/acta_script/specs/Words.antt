@@ -1,5 +1,5 @@
--- The words of events, operations, returns, commands to a debugger and commands of a session, the forms of their lines,
--- and the names of a line's faults.
+-- The words of events, operations, returns, debugger commands and session commands, the forms of their lines, and the
+-- names of line faults.
 use Rattle.std.specs.Prelude.{ℕ, Bool, true, false, List, codes}
 use Rattle.acta_table.specs.declared.event.EventKind.{EventKind}
 use Rattle.acta_table.specs.declared.event.EventKind.TheVariants.{Begin, Spawn, Split, Join, Delegate, Form, Operate, Commit, Abort, Permit}
@@ -27,7 +27,7 @@ event_word Commit = codes "commit"
 event_word Abort = codes "abort"
 event_word Permit = codes "permit"
 
--- the form of an event's line, with a word in capitals for each that varies
+-- the form of an event's line; a word in capitals stands for an argument
 abbrev pub event_form : EventKind → List ℕ
 event_form Begin = codes "begin T CLASS"
 event_form Spawn = codes "spawn T C CLASS"
@@ -73,7 +73,7 @@ op_form op_kind.Remove = codes "do T OBJECT remove INT"
 op_form op_kind.Has = codes "do T OBJECT has INT"
 op_form op_kind.Size = codes "do T OBJECT size"
 
--- the words of returns that are no numbers
+-- the words of returns that are not numbers
 abbrev pub done_word : List ℕ
 done_word = codes "done"
 
@@ -93,7 +93,7 @@ command_word command_kind.Value = codes "value"
 command_word command_kind.Status = codes "status"
 command_word command_kind.Owed = codes "owed"
 
--- the form of a command's line, with a word in capitals for each that varies
+-- the form of a command's line; a word in capitals stands for an argument
 abbrev pub command_form : CommandKind → List ℕ
 command_form command_kind.Step = codes "step"
 command_form command_kind.Back = codes "back"
@@ -143,7 +143,7 @@ shell_word shell_kind.Explore = codes "explore"
 shell_word shell_kind.Help = codes "help"
 shell_word shell_kind.Quit = codes "quit"
 
--- the form of its line, with a word in capitals for each that varies, in brackets if it may be left out
+-- the form of its line; a word in capitals stands for an argument, and a word in brackets is optional
 abbrev pub shell_form : ShellKind → List ℕ
 shell_form shell_kind.Undo = codes "undo [N]"
 shell_form shell_kind.Redo = codes "redo [N]"
@@ -165,11 +165,11 @@ shell_form shell_kind.Explore = codes "explore"
 shell_form shell_kind.Help = codes "help [COMMAND]"
 shell_form shell_kind.Quit = codes "quit"
 
--- the word before an event that is asked about
+-- the word that asks whether the event after it would be admitted
 abbrev pub can_word : List ℕ
 can_word = codes "can"
 
--- the name of what is wrong with a line
+-- the name of a line fault
 abbrev pub fault_name : LineFault → List ℕ
 fault_name fault.Empty = codes "Empty"
 fault_name fault.Word = codes "Word"

@@ -1,4 +1,4 @@
--- The lines of events and of kept items, as they are written.
+-- The lines of events and of kept items.
 use Rattle.std.specs.Prelude.{ℕ, List, [], ◌∷◌, ◌++◌, map, codes, decimal, slice_get, ℤ}
 use Rattle.std.specs.Fmt.{signed_decimal}
 use Rattle.std.specs.List.{join_with_byte}
@@ -29,7 +29,7 @@ use Rattle.acta_script.specs.Words.{event_word, op_word, done_word, flag_word}
 abbrev pub txn_word : TxnId → List ℕ
 txn_word t = decimal t.0
 
--- the names of a class and of an object; one that is not in the model has none
+-- the names of a class and of an object; empty if they are not in the model
 abbrev pub class_word : {A : Type 0} → Parts A → ClassId → List ℕ
 class_word m class = option_map_or (λ c. c.name) (class_at m class.0) []
 

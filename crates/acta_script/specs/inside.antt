@@ -1,3 +1,3 @@
--- Words that code and proofs use, beside the definitions that a reader must believe.
+-- Definitions used only by internal contracts and proofs.
 pub mod Again
 pub mod Ranges

@@ -1,6 +1,6 @@
 //! The lines of answers, debts and faults.
 
-ghost use Rattle.std.specs.Prelude.{◌≡◌, IfOk};
+ghost use Rattle.std.specs.Prelude.{◌≡◌, ◌++◌, IfOk, OnOk};
 ghost use Rattle.acta_script.specs.Answers.{answer_line, missing_word, owed_line, fault_line};
 ghost use Rattle.acta_table.specs.declared.answer.Answer.TheVariants.{Admitted, Refused};
 
@@ -9,55 +9,62 @@ use acta_table::{Answer, Missing, Owed, Ret, Rule};
 use acta_words::{push_natural, push_word};
 use std::alloc::{AllocError, Allocator};
 
-// ok PLACE [RETURN]
+// Adds `ok PLACE [RETURN]`.
 #[tactic(auto, unfolding(crate::specs::Answers::answer_line))]
-fn admitted_line<A: Allocator + Copy>(
-    alloc: A,
+fn push_admitted<A: Allocator>(
+    text: &mut Vec<u8, A>,
     place: u32,
     ret: Option<Ret>,
-) -> Result<Vec<u8, A>, AllocError>
-    ensures { IfOk result (λ line. line.items ≡ answer_line (Admitted place ret)) }
+) -> Result<(), AllocError>
+    ensures { OnOk result (text.new.items ≡ text.old.items ++ answer_line (Admitted place ret)) }
 {
-    let mut line = Vec::new(alloc);
-    line.extend_from_slice(b"ok")?;
-    push_natural(&mut line, u64::from(place))?;
-    if let Some(ret) = ret {
-        push_return(&mut line, ret)?;
+    text.extend_from_slice(b"ok")?;
+    push_natural(text, u64::from(place))?;
+    match ret {
+        Some(ret) => push_return(text, ret),
+        None => Ok(()),
     }
-    Ok(line)
 }
 
-// no RULE [by N]
+// Adds `no RULE [by N]`.
 #[tactic(auto, unfolding(crate::specs::Answers::answer_line))]
-fn refused_line<A: Allocator + Copy>(
-    alloc: A,
+fn push_refused<A: Allocator>(
+    text: &mut Vec<u8, A>,
     rule: Rule,
     by: Option<u32>,
-) -> Result<Vec<u8, A>, AllocError>
-    ensures { IfOk result (λ line. line.items ≡ answer_line (Refused rule by)) }
+) -> Result<(), AllocError>
+    ensures { OnOk result (text.new.items ≡ text.old.items ++ answer_line (Refused rule by)) }
 {
-    let mut line = Vec::new(alloc);
-    line.extend_from_slice(b"no")?;
-    push_natural(&mut line, u64::from(rule.number()))?;
-    if let Some(number) = by {
-        push_word(&mut line, b"by")?;
-        push_natural(&mut line, u64::from(number))?;
-    }
-    Ok(line)
+    text.extend_from_slice(b"no")?;
+    push_natural(text, u64::from(rule.number()))?;
+    let Some(number) = by else {
+        return Ok(());
+    };
+    push_word(text, b"by")?;
+    push_natural(text, u64::from(number))
 }
 
-/// The line of an answer: `ok` and the place, with the return of an operation, or `no` and the number of the rule, with
-/// `by` and the number that breaks it where there is one.
+/// Adds the line of an answer, without a line feed: `ok`, the place, and the return of an operation; or `no`, the number
+/// of the rule, and, if the rule names one, `by` and the number that breaks it.
+pub fn push_answer<A: Allocator>(text: &mut Vec<u8, A>, answer: &Answer) -> Result<(), AllocError>
+    ensures { OnOk result (text.new.items ≡ text.old.items ++ answer_line answer.now) }
+{
+    match *answer {
+        Answer::Admitted { place, ret } => push_admitted(text, place, ret),
+        Answer::Refused { rule, by } => push_refused(text, rule, by),
+    }
+}
+
+/// The line of an answer.
 pub fn answer_line<A: Allocator + Copy>(alloc: A, answer: &Answer) -> Result<Vec<u8, A>, AllocError>
     ensures { IfOk result (λ line. line.items ≡ answer_line answer.now) }
 {
-    match *answer {
-        Answer::Admitted { place, ret } => admitted_line(alloc, place, ret),
-        Answer::Refused { rule, by } => refused_line(alloc, rule, by),
-    }
+    let mut line = Vec::new(alloc);
+    push_answer(&mut line, answer)?;
+    Ok(line)
 }
 
-/// The word of an event that is owed.
+/// The word of a missing event.
 pub fn missing_word(missing: Missing) -> &'static [u8]
     ensures { result.now ≡ missing_word missing }
 {
@@ -67,7 +74,7 @@ pub fn missing_word(missing: Missing) -> &'static [u8]
     }
 }
 
-/// The line of a debt: `owed`, the number of the edge, the transaction, and the event that it owes.
+/// The line of a debt: `owed`, the number of the edge, the transaction, and the missing event.
 #[tactic(auto, unfolding(crate::specs::Answers::owed_line))]
 pub fn owed_line<A: Allocator + Copy>(alloc: A, owed: &Owed) -> Result<Vec<u8, A>, AllocError>
     ensures { IfOk result (λ line. line.items ≡ owed_line owed.now) }
@@ -80,8 +87,8 @@ pub fn owed_line<A: Allocator + Copy>(alloc: A, owed: &Owed) -> Result<Vec<u8, A
     Ok(line)
 }
 
-/// The line of a fault that is found in a history: `fault`, the number of the axiom, the place of the event, from 1,
-/// and the number that breaks the axiom there.
+/// The line of a fault in a history: `fault`, the number of the axiom, the place, from 1, and the number that breaks
+/// the axiom there.
 #[tactic(auto, unfolding(crate::specs::Answers::fault_line))]
 pub fn fault_line<A: Allocator + Copy>(
     alloc: A,

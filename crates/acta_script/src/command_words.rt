@@ -1,4 +1,4 @@
-//! The commands to a debugger and the kinds of break: their words, and the forms of their lines.
+//! The words of debugger commands and of kinds of break, and the forms of their lines.
 
 ghost use Rattle.std.specs.Prelude.{◌≡◌};
 ghost use Rattle.acta_script.specs.Commands.{parse_break_kind, parse_command_kind};
@@ -9,28 +9,28 @@ use crate::fault::LineFault;
 /// A command to a debugger, without its argument.
 #[derive(Clone, Copy, PartialEq, Eq, Debug)]
 pub enum CommandKind {
-    /// One event further.
+    /// One event forward.
     Step,
     /// One event back.
     Back,
-    /// To behind so many events.
+    /// To the place after this many events.
     Goto,
-    /// On to where a break holds, or to the end.
+    /// On to the next place where a break holds, or to the end.
     Run,
-    /// One more break.
+    /// Adds a break.
     Break,
-    /// No break any more.
+    /// Removes all breaks.
     Clear,
     /// The value of an object.
     Value,
     /// The status of a transaction.
     Status,
-    /// The events that are owed.
+    /// The debts.
     Owed,
 }
 
 impl CommandKind {
-    /// All of them.
+    /// All kinds of command.
     pub const ALL: [CommandKind; 9] = [
         CommandKind::Step,
         CommandKind::Back,
@@ -43,7 +43,7 @@ impl CommandKind {
         CommandKind::Owed,
     ];
 
-    /// The first word of the line of the command, as `goto`.
+    /// The first word of the command's line, such as `goto`.
     pub fn word(self) -> &'static str
         ensures { result.now ≡ command_word self }
     {
@@ -60,7 +60,7 @@ impl CommandKind {
         }
     }
 
-    /// The form of the line of the command, as `goto N`: each word in capitals stands for one that varies.
+    /// The form of the command's line, such as `goto N`. A word in capitals stands for an argument.
     pub fn form(self) -> &'static str
         ensures { result.now ≡ command_form self }
     {
@@ -78,7 +78,7 @@ impl CommandKind {
     }
 }
 
-/// The kind of command that has this first word.
+/// The kind of command with this first word.
 pub(crate) fn parse_command_kind(word: &[u8]) -> Result<CommandKind, LineFault>
     ensures { result ≡ parse_command_kind word.now }
 {
@@ -105,7 +105,7 @@ pub(crate) fn parse_command_kind(word: &[u8]) -> Result<CommandKind, LineFault>
     }
 }
 
-/// Where a run of a debugger is to stop, without the argument.
+/// The kinds of break: where a run of the debugger stops, without the argument.
 #[derive(Clone, Copy, PartialEq, Eq, Debug)]
 pub enum BreakKind {
     /// At an event of a kind.
@@ -114,14 +114,14 @@ pub enum BreakKind {
     Txn,
     /// At an operation on an object.
     Object,
-    /// Where so many events are owed, or more.
+    /// Where at least a number of events are owed.
     Owed,
     /// Where a transaction ends.
     Ended,
 }
 
 impl BreakKind {
-    /// All of them.
+    /// All kinds of break.
     pub const ALL: [BreakKind; 5] = [
         BreakKind::Kind,
         BreakKind::Txn,
@@ -130,7 +130,7 @@ impl BreakKind {
         BreakKind::Ended,
     ];
 
-    /// The word of the kind of break, as `txn`: it follows `break`.
+    /// The word of the kind of break, which follows `break`, such as `txn`.
     pub fn word(self) -> &'static str
         ensures { result.now ≡ break_word self }
     {
@@ -143,7 +143,7 @@ impl BreakKind {
         }
     }
 
-    /// The form of the line of a command that adds such a break, as `break txn T`.
+    /// The form of the line that adds such a break, such as `break txn T`.
     pub fn form(self) -> &'static str
         ensures { result.now ≡ break_form self }
     {
@@ -157,7 +157,7 @@ impl BreakKind {
     }
 }
 
-/// The kind of break that has this word.
+/// The kind of break with this word.
 pub(crate) fn parse_break_kind(word: &[u8]) -> Result<BreakKind, LineFault>
     ensures { result ≡ parse_break_kind word.now }
 {

@@ -1,5 +1,5 @@
-//! Commands to a debugger, read as the lines of events are: unknown words first, then the number of words, then
-//! numbers, then names. So the fault that is told is the lowest. What a command does is no matter of lines.
+//! Parses debugger commands. Unknown words are reported first, then a wrong number of words, then numbers, then names,
+//! so that the lowest fault is reported. What a command does is defined elsewhere.
 
 ghost use Rattle.std.specs.Prelude.{◌≡◌, map, Ok, Err, IfOk, IfErr};
 ghost use Rattle.acta_script.specs.Commands.{parse_break_command, break_of_kind, parse_break, command_of, command_of_kind, parse_command, parse_ended_break, parse_goto, parse_kind_break, parse_object_break, one_word, parse_owed_break, parse_status, parse_txn_break, parse_value};
@@ -15,7 +15,7 @@ use acta_table::{EventKind, Model, ObjId, TxnId};
 use acta_words::words_of;
 use std::alloc::Allocator;
 
-/// Where a run of a debugger is to stop, as a command says it.
+/// A break: where a run of the debugger stops.
 #[derive(Clone, Copy, PartialEq, Eq, Debug)]
 pub enum BreakOn {
     /// At an event of this kind.
@@ -24,7 +24,7 @@ pub enum BreakOn {
     Txn(TxnId),
     /// At an operation on the object.
     Object(ObjId),
-    /// Where so many events are owed, or more.
+    /// Where at least this many events are owed.
     Owed(u32),
     /// Where the transaction ends.
     Ended(TxnId),
@@ -33,27 +33,27 @@ pub enum BreakOn {
 /// A command to a debugger.
 #[derive(Clone, Copy, PartialEq, Eq, Debug)]
 pub enum DebugCommand {
-    /// One event further.
+    /// One event forward.
     Step,
     /// One event back.
     Back,
-    /// To behind so many events.
+    /// To the place after this many events.
     Goto(u32),
-    /// On to where a break holds, or to the end.
+    /// On to the next place where a break holds, or to the end.
     Run,
-    /// One more break.
+    /// Adds a break.
     Break(BreakOn),
-    /// No break any more.
+    /// Removes all breaks.
     Clear,
-    /// The value of the object is asked for.
+    /// Asks for the value of the object.
     Value(ObjId),
-    /// How the transaction stands is asked for.
+    /// Asks for the status of the transaction.
     Status(TxnId),
-    /// What is owed is asked for.
+    /// Asks for the debts.
     Owed,
 }
 
-// The one word that is left.
+// The only remaining word.
 fn one_word<'a>(words: &[&'a [u8]]) -> Result<&'a [u8], LineFault>
     ensures ok { IfOk result (λ word. one_word (map (λ word. word.now) words.now) ≡ Ok word.now) }
     ensures fault { IfErr result (λ fault. one_word (map (λ word. word.now) words.now) ≡ Err fault) }
@@ -111,7 +111,7 @@ fn parse_ended_break(words: &[&[u8]]) -> Result<BreakOn, LineFault>
     Ok(BreakOn::Ended(t))
 }
 
-// The break of this kind that the words after the kind's word say.
+// The break of this kind, from the words after the kind's word.
 fn break_of_kind<A: Allocator>(
     model: &Model<A>,
     kind: BreakKind,
@@ -128,7 +128,7 @@ fn break_of_kind<A: Allocator>(
     }
 }
 
-// The break that the words after `break` say.
+// The break, from the words after `break`.
 #[tactic(auto, unfolding(crate::specs::Commands::parse_break))]
 fn parse_break<A: Allocator>(model: &Model<A>, words: &[&[u8]]) -> Result<BreakOn, LineFault>
     ensures { result ≡ parse_break model.now (map (λ word. word.now) words.now) }
@@ -167,7 +167,7 @@ fn parse_status(words: &[&[u8]]) -> Result<DebugCommand, LineFault>
     Ok(DebugCommand::Status(t))
 }
 
-// A command that adds a break.
+// The command that adds a break.
 fn parse_break_command<A: Allocator>(
     model: &Model<A>,
     words: &[&[u8]],
@@ -178,7 +178,7 @@ fn parse_break_command<A: Allocator>(
     Ok(DebugCommand::Break(on))
 }
 
-// The command of this kind that the words after the first say.
+// The command of this kind, from the words after the first.
 fn command_of_kind<A: Allocator>(
     model: &Model<A>,
     kind: CommandKind,
@@ -199,7 +199,7 @@ fn command_of_kind<A: Allocator>(
     }
 }
 
-// The command that the words say.
+// The command of these words.
 #[tactic(auto, unfolding(crate::specs::Commands::parse_command))]
 fn parse_command<A: Allocator>(model: &Model<A>, words: &[&[u8]]) -> Result<DebugCommand, LineFault>
     ensures { result ≡ parse_command model.now (map (λ word. word.now) words.now) }
@@ -211,9 +211,9 @@ fn parse_command<A: Allocator>(model: &Model<A>, words: &[&[u8]]) -> Result<Debu
     command_of_kind(model, kind, words)
 }
 
-/// The command that the line says: `step`, `back`, `goto N`, `run`, `clear`, `value OBJECT`, `status T`, `owed`, or
-/// `break` with `kind EVENT`, `txn T`, `object OBJECT`, `owed N` or `ended T` behind it. `Fault` has the lowest fault
-/// of the line, and `Memory` comes if memory runs out. Transactions have 16 bits, and an N has 32.
+/// Parses a debugger command: `step`, `back`, `goto N`, `run`, `clear`, `value OBJECT`, `status T`, `owed`, or `break`
+/// followed by `kind EVENT`, `txn T`, `object OBJECT`, `owed N` or `ended T`. Returns the lowest fault of the line, or
+/// `Memory` if memory runs out. Transactions have 16 bits, and N has 32.
 pub fn read_command<A: Allocator + Copy>(
     alloc: A,
     model: &Model<A>,

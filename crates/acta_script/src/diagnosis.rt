@@ -1,4 +1,5 @@
-//! Where a line of an event, a kept item, a seated event or a command to a debugger is wrong, and what is expected there.
+//! Diagnoses wrong lines (events, kept items, seated events, debugger commands): which word is wrong, and what is
+//! expected.
 
 ghost use Rattle.std.specs.Prelude.{◌≡◌, ◌<◌, ◌≤◌, ◌+◌, ◌^◌, length, map, option_map, IfOk, IfSome};
 ghost use Rattle.std.specs.Result.{result_err};
@@ -22,16 +23,16 @@ use acta_table::{EventKind, Model};
 use acta_words::words_of;
 use std::alloc::{AllocError, Allocator};
 
-/// What a word of a line stands for.
+/// The part of a line that a word stands for.
 #[derive(Clone, Copy, PartialEq, Eq, Debug)]
 pub enum LinePart {
-    /// The kind of event, as `begin`: the first word of an event.
+    /// The kind of event, such as `begin`: the first word of an event.
     Event,
-    /// A kind of dependency, as `CD`.
+    /// A kind of dependency, such as `CD`.
     Kind,
-    /// An operation, as `read`.
+    /// An operation, such as `read`.
     Operation,
-    /// The number of a transaction, of 16 bits.
+    /// A transaction number of 16 bits.
     Transaction,
     /// A signed number of 32 bits.
     Integer,
@@ -41,56 +42,56 @@ pub enum LinePart {
     Class,
     /// The name of an object of the model.
     Object,
-    /// A return, as `done` or a number.
+    /// A return, such as `done` or a number.
     Return,
-    /// The number of a seat, from 1 to this number of seats.
+    /// A seat, from 1 to this number of seats.
     Seat(u8),
     /// A count, a number of 32 bits.
     Count,
-    /// The kind of command to a debugger, as `goto`: the first word of a command.
+    /// The kind of debugger command, such as `goto`: the first word of a command.
     Command,
-    /// The kind of break, as `txn`: the word after `break`.
+    /// The kind of break, such as `txn`: the word after `break`.
     Break,
 }
 
-/// What is expected where a line is wrong.
+/// What is expected at the wrong place.
 #[derive(Clone, Copy, PartialEq, Eq, Debug)]
 pub enum Expected {
-    /// A word that stands for this.
+    /// A word for this part.
     Part(LinePart),
-    /// As many words as the form of this kind of event has (`event_form`).
+    /// As many words as the form of this kind of event (`event_form`).
     EventForm(EventKind),
-    /// As many words as the form of this operation has (`OpKind::form`).
+    /// As many words as the form of this operation (`OpKind::form`).
     OperationForm(OpKind),
-    /// As many words as the form of this command has (`CommandKind::form`).
+    /// As many words as the form of this command (`CommandKind::form`).
     CommandForm(CommandKind),
-    /// As many words as the form of a command that adds this break has (`BreakKind::form`).
+    /// As many words as the form of a command that adds this break (`BreakKind::form`).
     BreakForm(BreakKind),
-    /// As many words as the form of this command of a session has (`ShellKind::form`).
+    /// As many words as the form of this session command (`ShellKind::form`).
     ShellForm(ShellKind),
 }
 
-/// Where a line is wrong. Its words are numbered from 0.
+/// The place where a line is wrong. Words are numbered from 0.
 #[derive(Clone, Copy, PartialEq, Eq, Debug)]
 pub enum WordPlace {
-    /// The word of this number is wrong, or is one too many.
+    /// The word with this number is wrong, or is one too many.
     Wrong(usize),
-    /// The line lacks a word, which would have this number.
+    /// A word is missing; it would have this number.
     Missing(usize),
 }
 
-/// What is wrong with a line.
+/// A fault of a line, with its place.
 #[derive(Clone, Copy, PartialEq, Eq, Debug)]
 pub struct Diagnostic {
     /// The lowest of the line's faults.
     pub fault: LineFault,
-    /// The first word that has the fault, or where the line lacks one.
+    /// The first word with the fault, or the place of the missing word.
     pub place: WordPlace,
-    /// What is expected there.
+    /// What is expected at the place.
     pub expected: Expected,
 }
 
-// Whether the fault that reading a word found is this one.
+// Whether the fault that was found is this one.
 fn is_fault(fault: LineFault, found: Option<LineFault>) -> bool
     ensures { result ≡ is_fault fault found }
 {
@@ -100,7 +101,7 @@ fn is_fault(fault: LineFault, found: Option<LineFault>) -> bool
     }
 }
 
-// The fault of a word that stands for a list of operations.
+// The fault of a word for a list of operations.
 fn fault_of_operations<A: Allocator + Copy>(
     alloc: A,
     word: &[u8],
@@ -114,7 +115,7 @@ fn fault_of_operations<A: Allocator + Copy>(
     }
 }
 
-// The fault of a word that stands for this, if it has one.
+// The fault of a word for this part, if it has one.
 fn fault_of_word<A: Allocator + Copy>(
     alloc: A,
     model: &Model<A>,
@@ -140,7 +141,7 @@ fn fault_of_word<A: Allocator + Copy>(
     })
 }
 
-// The first word that has this fault, by what each word stands for. In its line the first of the words has number n.
+// The first word with this fault, given the parts. The first of the words has number n in its line.
 fn wrong_word<A: Allocator + Copy>(
     alloc: A,
     model: &Model<A>,
@@ -166,7 +167,7 @@ fn wrong_word<A: Allocator + Copy>(
     Ok(None)
 }
 
-// The first word too many, or the place after the last word where there are too few.
+// The first word too many, or the place after the last word if there are too few.
 fn wrong_count(expected: Expected, n: usize, wanted: usize, count: usize) -> Option<Diagnostic>
     requires { n + count < 2 ^ 64 }
     ensures { result ≡ wrong_count expected n wanted count }
@@ -185,7 +186,7 @@ fn wrong_count(expected: Expected, n: usize, wanted: usize, count: usize) -> Opt
     })
 }
 
-// The lowest fault and its first word, where the words stand for these parts.
+// The lowest fault and its first word, given the parts.
 fn wrong_in<A: Allocator + Copy>(
     alloc: A,
     model: &Model<A>,
@@ -209,7 +210,7 @@ fn wrong_in<A: Allocator + Copy>(
     wrong_word(alloc, model, LineFault::Name, n, parts, words)
 }
 
-// The operation that the words after a `do` name, if they get that far and name one.
+// The operation named by the words after `do`, if they are long enough and name one.
 fn op_kind_in(words: &[&[u8]]) -> Option<OpKind>
     ensures { result ≡ op_kind_in (map (λ word. word.now) words.now) }
 {
@@ -219,7 +220,7 @@ fn op_kind_in(words: &[&[u8]]) -> Option<OpKind>
     }
 }
 
-// What the words after a `do` stand for.
+// The parts after `do`.
 fn operation_parts(op: Option<OpKind>) -> &'static [LinePart]
     ensures { result.now ≡ operation_parts op }
 {
@@ -234,7 +235,7 @@ fn operation_parts(op: Option<OpKind>) -> &'static [LinePart]
     }
 }
 
-// What the words after the first stand for in an event of this kind and operation.
+// The parts after the first word, for this kind of event and operation.
 fn parts_of(kind: EventKind, op: Option<OpKind>) -> &'static [LinePart]
     ensures { result.now ≡ parts_of kind op }
 {
@@ -279,7 +280,7 @@ fn form_of(kind: EventKind, op: Option<OpKind>) -> Expected
     }
 }
 
-/// What is wrong with the words of an event, of which the first has number n in its line.
+/// The diagnosis of an event's words, of which the first has number n in its line.
 pub(crate) fn wrong_event<A: Allocator + Copy>(
     alloc: A,
     model: &Model<A>,
@@ -316,7 +317,7 @@ pub(crate) fn wrong_event<A: Allocator + Copy>(
     }
 }
 
-// What is wrong with the words after a `=`, of which the first has number n in its line.
+// The diagnosis of the words after a `=`, of which the first has number n in its line.
 fn wrong_return<A: Allocator + Copy>(
     alloc: A,
     model: &Model<A>,
@@ -336,7 +337,7 @@ fn wrong_return<A: Allocator + Copy>(
     )
 }
 
-// The one with the lower fault; of equal faults the first.
+// The diagnosis with the lower fault, or the first if the faults are equal.
 fn lower_of(first: Option<Diagnostic>, second: Option<Diagnostic>) -> Option<Diagnostic>
     ensures { result ≡ lower_of first second }
 {
@@ -347,7 +348,7 @@ fn lower_of(first: Option<Diagnostic>, second: Option<Diagnostic>) -> Option<Dia
     }
 }
 
-// What is wrong with the words of a kept item.
+// The diagnosis of a kept item's words.
 fn wrong_kept<A: Allocator + Copy>(
     alloc: A,
     model: &Model<A>,
@@ -363,7 +364,7 @@ fn wrong_kept<A: Allocator + Copy>(
     Ok(lower_of(event, ret))
 }
 
-// What is wrong with the word of a seat, one of this many, which is the first of its line.
+// The diagnosis of a seat, the first word of its line.
 fn wrong_seat<A: Allocator + Copy>(
     alloc: A,
     model: &Model<A>,
@@ -376,7 +377,7 @@ fn wrong_seat<A: Allocator + Copy>(
     wrong_in(alloc, model, &[part], Expected::Part(part), 0, &[word])
 }
 
-/// What is wrong with the words after a seat, or after another word that an event must follow.
+/// The diagnosis of the words after a seat, or after another word that an event must follow.
 pub(crate) fn wrong_after_seat<A: Allocator + Copy>(
     alloc: A,
     model: &Model<A>,
@@ -394,7 +395,7 @@ pub(crate) fn wrong_after_seat<A: Allocator + Copy>(
     wrong_event(alloc, model, 1, words)
 }
 
-// What is wrong with the words of a seated event.
+// The diagnosis of a seated event's words.
 fn wrong_seated<A: Allocator + Copy>(
     alloc: A,
     model: &Model<A>,
@@ -415,7 +416,7 @@ fn wrong_seated<A: Allocator + Copy>(
     Ok(lower_of(seat, event))
 }
 
-// What the word after a kind of break stands for.
+// The part after a kind of break.
 fn break_parts(kind: BreakKind) -> &'static [LinePart]
     ensures { result.now ≡ break_parts kind }
 {
@@ -428,7 +429,7 @@ fn break_parts(kind: BreakKind) -> &'static [LinePart]
     }
 }
 
-// What is wrong with the words after `break`.
+// The diagnosis of the words after `break`.
 fn wrong_break<A: Allocator + Copy>(
     alloc: A,
     model: &Model<A>,
@@ -460,7 +461,7 @@ fn wrong_break<A: Allocator + Copy>(
     }
 }
 
-// What the words after the first stand for in a command of this kind. Those of a break are another matter.
+// The parts after the first word, for this kind of command. Breaks are handled separately.
 fn command_parts(kind: CommandKind) -> &'static [LinePart]
     ensures { result.now ≡ command_parts kind }
 {
@@ -472,14 +473,14 @@ fn command_parts(kind: CommandKind) -> &'static [LinePart]
     }
 }
 
-// Whether it is the kind of command that adds a break.
+// Whether the kind of command adds a break.
 fn is_break(kind: CommandKind) -> bool
     ensures { result ≡ is_break kind }
 {
     matches!(kind, CommandKind::Break)
 }
 
-// What is wrong with the words after the first of a command of this kind.
+// The diagnosis of the words after the first, for this kind of command.
 fn wrong_argument<A: Allocator + Copy>(
     alloc: A,
     model: &Model<A>,
@@ -495,7 +496,7 @@ fn wrong_argument<A: Allocator + Copy>(
     wrong_in(alloc, model, parts, Expected::CommandForm(kind), 1, words)
 }
 
-// What is wrong with the words of a command.
+// The diagnosis of a command's words.
 fn wrong_command<A: Allocator + Copy>(
     alloc: A,
     model: &Model<A>,
@@ -520,10 +521,10 @@ fn wrong_command<A: Allocator + Copy>(
     }
 }
 
-/// What is wrong with a line of an event. `None` where `read_event` can read the line. The fault is the one that
-/// `read_event` answers, the lowest of the line. The place is the first word that has this fault: for `Word`, `Number`
-/// and `Name` a word that cannot be read as what is expected there, for `Arity` the first word too many, or the place
-/// after the last word where there are too few.
+/// Diagnoses the line of an event. `None` if `read_event` can read the line. The fault is the one that `read_event`
+/// returns, the lowest of the line. The place is the first word with this fault: for `Word`, `Number` and `Name` a word
+/// that cannot be read as what is expected, for `Arity` the first word too many, or the place after the last word if
+/// there are too few.
 pub fn diagnose_event<A: Allocator + Copy>(
     alloc: A,
     model: &Model<A>,
@@ -537,8 +538,8 @@ pub fn diagnose_event<A: Allocator + Copy>(
     wrong_event(alloc, model, 0, &words)
 }
 
-/// What is wrong with a kept line. `None` where `read_kept` can read the line. The fault is the one that `read_kept`
-/// answers, the lower of the event's and the return's. Where both have the same, the place is in the event.
+/// Diagnoses a kept line. `None` if `read_kept` can read the line. The fault is the one that `read_kept` returns, the
+/// lower of the event's and the return's. If both have the same, the place is in the event.
 pub fn diagnose_kept<A: Allocator + Copy>(
     alloc: A,
     model: &Model<A>,
@@ -552,9 +553,9 @@ pub fn diagnose_kept<A: Allocator + Copy>(
     wrong_kept(alloc, model, &words)
 }
 
-/// What is wrong with a seated line, where the seats are so many. `None` where `read_seated` can read the line. The
-/// fault is the one that `read_seated` answers, the lower of the seat's and the event's. Where both have the same, the
-/// place is the seat. A line with a seat alone lacks a word.
+/// Diagnoses a seated line, given the number of seats. `None` if `read_seated` can read the line. The fault is the one
+/// that `read_seated` returns, the lower of the seat's and the event's. If both have the same, the place is the seat. A
+/// line with only a seat lacks a word.
 pub fn diagnose_seated<A: Allocator + Copy>(
     alloc: A,
     model: &Model<A>,
@@ -569,9 +570,8 @@ pub fn diagnose_seated<A: Allocator + Copy>(
     wrong_seated(alloc, model, seats, &words)
 }
 
-/// What is wrong with the line of a command to a debugger. `None` where `read_command` can read the line. The fault is
-/// the one that `read_command` answers, the lowest of the line, and the place is the first word that has it, as in the
-/// lines of events.
+/// Diagnoses the line of a debugger command. `None` if `read_command` can read the line. The fault is the one that
+/// `read_command` returns, the lowest of the line, and the place is the first word that has it, as in `diagnose_event`.
 pub fn diagnose_command<A: Allocator + Copy>(
     alloc: A,
     model: &Model<A>,

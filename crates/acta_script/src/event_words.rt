@@ -1,4 +1,4 @@
-//! The kinds of event: the first words of their lines, and the forms of their lines.
+//! The first words of events' lines, and the forms of these lines.
 
 ghost use Rattle.std.specs.Prelude.{◌≡◌};
 ghost use Rattle.acta_script.specs.Words.{event_word, event_form};
@@ -19,7 +19,7 @@ pub const EVENT_KINDS: [EventKind; 10] = [
     EventKind::Permit,
 ];
 
-/// The first word of the line of an event of this kind, as `begin`.
+/// The first word of the line of this kind of event, such as `begin`.
 pub fn event_word(kind: EventKind) -> &'static str
     ensures { result.now ≡ event_word kind }
 {
@@ -37,7 +37,7 @@ pub fn event_word(kind: EventKind) -> &'static str
     }
 }
 
-/// The form of the line of an event of this kind, as `begin T CLASS`: each word in capitals stands for one that varies.
+/// The form of the line of this kind of event, such as `begin T CLASS`. A word in capitals stands for an argument.
 pub fn event_form(kind: EventKind) -> &'static str
     ensures { result.now ≡ event_form kind }
 {

@@ -1,4 +1,4 @@
-//! Why a line says no event.
+//! Why a line could not be read.
 
 ghost use Rattle.std.specs.Prelude.{◌≡◌};
 ghost use Rattle.std.specs.Option.{option_map_or};
@@ -7,16 +7,16 @@ ghost use Rattle.acta_script.specs.declared.fault.LineError.TheVariants.{Memory,
 
 use std::alloc::{AllocError, AllocFailed};
 
-/// What is wrong with a line; of several the lowest is answered (our list).
+/// A fault of a line. If there are several, the lowest is reported.
 #[derive(Clone, Copy, PartialEq, Eq, Debug)]
 pub enum LineFault {
-    /// There is no word.
+    /// The line has no words.
     Empty = 1,
-    /// The first word is no event, or a word for a kind or an operation is none.
+    /// The first word is no event, or the word for a kind or an operation is unknown.
     Word = 2,
-    /// There are too few words or too many for the event, or not one word behind a `=`.
+    /// Too few or too many words for the event, or not exactly one word after a `=`.
     Arity = 3,
-    /// A number isn't written as it should, or is out of its range.
+    /// A number is malformed or out of range.
     Number = 4,
     /// The model has no such class or object.
     Name = 5,
@@ -31,7 +31,7 @@ impl LineFault {
     }
 }
 
-/// The lower of the fault and the other, if there is one.
+/// The lower of the two faults, if there is another.
 pub(crate) fn lowest(fault: LineFault, other: Option<LineFault>) -> LineFault
     ensures { result ≡ option_map_or (lower fault) other fault }
 {
@@ -41,12 +41,12 @@ pub(crate) fn lowest(fault: LineFault, other: Option<LineFault>) -> LineFault
     }
 }
 
-/// Why a line gave no event.
+/// The error when a line is read.
 #[derive(Debug, Drop)]
 pub enum LineError {
-    /// There is no memory. It says nothing of the line.
+    /// Memory ran out, so the line may be right or wrong.
     Memory,
-    /// The line is faulty; this is the lowest of its faults.
+    /// The lowest fault of the line.
     Fault(LineFault),
 }
 

@@ -1,4 +1,4 @@
-//! Kept lines: an event and, behind a `=`, its return.
+//! Kept lines: an event and, after a `=`, its return.
 
 ghost use Rattle.std.specs.Prelude.{◌≡◌, map, position, Ok, IfOk, IfErr};
 ghost use Rattle.acta_script.specs.Laws.{IsInModel};
@@ -11,7 +11,7 @@ use crate::reading::parse_event;
 use crate::returns::{parse_return, push_return};
 use crate::writing::push_event;
 use acta_table::{Kept, Model};
-use acta_words::{push_word, words_of};
+use acta_words::{few_words, push_word, words_of};
 use std::alloc::{AllocError, Allocator};
 
 /// The position of the first `=`.
@@ -21,7 +21,7 @@ pub(crate) fn sign_place(words: &[&[u8]]) -> Option<usize>
     words.iter().position(|word| *word == b"=".as_slice())
 }
 
-// The kept item that the words say.
+// The kept item of these words.
 #[tactic(auto, unfolding(crate::specs::Reading::parse_kept))]
 fn parse_kept<A: Allocator + Copy>(
     alloc: A,
@@ -47,8 +47,8 @@ fn parse_kept<A: Allocator + Copy>(
     }
 }
 
-/// The kept item that the line says: an event, and behind the first `=`, if one stands there, its return, of which a
-/// number has 64 bits. `Fault` has the lowest fault of both parts, and `Memory` comes if memory runs out.
+/// Parses a kept item: an event and, if the line has a `=`, the return after the first one, where a number has 64 bits.
+/// Returns the lowest fault of both parts, or `Memory` if memory runs out.
 pub fn read_kept<A: Allocator + Copy>(
     alloc: A,
     model: &Model<A>,
@@ -58,12 +58,14 @@ pub fn read_kept<A: Allocator + Copy>(
     ensures fault { IfErr result (IsWhy (kept_of model.now line.now)) }
     ensures in_model { IfOk result (λ kept. IsInModel model.now kept.event) }
 {
-    let words = words_of(alloc, line)?;
-    parse_kept(alloc, model, &words)
+    match few_words(line) {
+        Some(words) => parse_kept(alloc, model, words.as_slice()),
+        None => parse_kept(alloc, model, &words_of(alloc, line)?),
+    }
 }
 
-/// The line of the kept item: that of its event, and for a return ` = ` and its word. Read again it gives the item, if
-/// the class and the object of the event are in the model.
+/// The line of the kept item: the line of its event and, for a return, ` = ` and its word. Reading it gives the same
+/// item if the event's class and object are in the model.
 #[tactic(auto, using(crate::proofs::Lines::kept_line_plain, crate::proofs::Lines::kept_line_with))]
 pub fn write_kept<A: Allocator + Copy>(
     alloc: A,

@@ -1,5 +1,5 @@
-//! The laws on lines: what is written is read again. The calls do nothing but look at an event for what its type says,
-//! that its numbers are in range and its operations ascend; what follows from that is their contracts.
+//! Round trip: reading a written line gives the same event or item. The calls only look at an event for its types'
+//! invariants, that numbers are in range and operations ascend; the contracts follow from these.
 
 ghost use Rattle.std.specs.Prelude.{◌≡◌, ◌≤◌, nat_le, true, IfSome};
 ghost use Rattle.std.specs.List.{list_all};
@@ -47,7 +47,7 @@ fn op_set_ranges<A: Allocator>(ops: &OpSet<A>)
     }
 }
 
-// The numbers that an event has are in range, and its operations ascend.
+// The numbers of an event are in range, and its operations ascend.
 #[tactic(auto, using(crate::proofs::Ascending::none_sorted))]
 fn event_ranges<A: Allocator>(event: &Event<A>)
     ensures { HasRanges event.now }
@@ -89,7 +89,7 @@ fn event_ranges<A: Allocator>(event: &Event<A>)
     }
 }
 
-// The number that a return has is in range.
+// The number of a return is in range.
 fn return_range(ret: Option<Ret>)
     ensures { IfSome ret HasRange }
 {
@@ -99,7 +99,7 @@ fn return_range(ret: Option<Ret>)
     }
 }
 
-/// What is written of the event is read again as the event. Takes no memory.
+/// Reading the written event gives the same event. Allocates nothing.
 #[tactic(auto, using(crate::proofs::Again::event_line_again))]
 pub(crate) fn event_again<A: Allocator>(model: &Model<A>, event: &Event<A>)
     ensures { IsInModel model.now event.now → IsReadAgain model.now event.now }
@@ -108,7 +108,7 @@ pub(crate) fn event_again<A: Allocator>(model: &Model<A>, event: &Event<A>)
     event_ranges(event);
 }
 
-/// What is written of the kept item is read again as the item. Takes no memory.
+/// Reading the written kept item gives the same item. Allocates nothing.
 #[tactic(auto, using(crate::proofs::Again::kept_line_again))]
 pub(crate) fn kept_again<A: Allocator>(model: &Model<A>, kept: &Kept<A>)
     ensures { IsInModel model.now kept.now.event → IsKeptAgain model.now kept.now }

@@ -1,6 +1,6 @@
-//! Lines: the event, the kept item, the seated event or the step of a program that a line says, and the lines of
-//! events, kept items, answers, debts and faults. Words stand apart by spaces or tabs, a `#` begins a comment, and what
-//! is written has one space between two words. A line of an event is one of
+//! Reads lines of events, kept items, seated events, program steps and commands, and writes lines of events, kept
+//! items, answers, debts and faults. Words are separated by spaces or tabs, a `#` begins a comment, and written lines
+//! have single spaces. A line of an event is one of
 //!
 //! ```text
 //! begin T CLASS     spawn T C CLASS     split T U CLASS OPS
@@ -9,15 +9,14 @@
 //! permit T U OBJECT
 //! ```
 //!
-//! where `OP` is `read`, `get`, `size`, or `write`, `add`, `insert`, `remove`, `has` with an `INT` behind it, and `OPS`
-//! is `-` or numbers joined by commas. A kept line is an event, and for a return behind it `=` and `done`, `yes`, `no`
-//! or a number. A seated line is a seat, from 1, and an event behind it. A line of a program is a seat and one event or
-//! more, with the word `|` between two of them. An answer is `ok PLACE [RETURN]` or `no RULE [by N]`, a debt is
-//! `owed EDGE TXN commit` or `.. abort`, and a fault in a history is `fault AXIOM PLACE BY`. No line that is written
-//! ends in a line feed. What is written of an event or a kept item is read again as this event or item: it is a clause
-//! of `write_event` and `write_kept`. Where a line of an event, a kept item, a seated event or a command cannot be read,
-//! `diagnose_event`, `diagnose_kept`, `diagnose_seated` and `diagnose_command` say which word is wrong, and what is expected
-//! in its place. Other crates write lines of their own with the words of statuses, sets, returns and events that are owed.
+//! where `OP` is `read`, `get`, `size`, or `write`, `add`, `insert`, `remove`, `has` followed by an `INT`, and `OPS` is
+//! `-` or numbers joined by commas. A kept line is an event, followed by `=` and `done`, `yes`, `no` or a number if
+//! there is a return. A seated line is a seat, from 1, and an event. A line of a program is a seat and one or more
+//! events, separated by the word `|`. An answer is `ok PLACE [RETURN]` or `no RULE [by N]`, a debt is
+//! `owed EDGE TXN commit` or `.. abort`, and a fault in a history is `fault AXIOM PLACE BY`. Written lines have no line
+//! feed. Reading a written event or kept item gives it back: a clause of `write_event` and `write_kept`. If a line
+//! cannot be read, `diagnose_event`, `diagnose_kept`, `diagnose_seated` and `diagnose_command` tell which word is wrong
+//! and what is expected there. Other crates write further lines with the words of statuses, sets, returns and missing events.
 //!
 //! A call that allocates returns `Err` if memory runs out.
 #![tactic(auto)]
@@ -45,7 +44,7 @@ mod shell_words;
 mod states;
 mod writing;
 
-pub use answers::{answer_line, fault_line, missing_word, owed_line};
+pub use answers::{answer_line, fault_line, missing_word, owed_line, push_answer};
 pub use command_words::{BreakKind, CommandKind};
 pub use commands::{BreakOn, DebugCommand, read_command};
 pub use diagnosis::{

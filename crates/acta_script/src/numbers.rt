@@ -1,4 +1,4 @@
-//! The words of numbers: transactions, the numbers of operations on objects, and those of commands.
+//! Numbers in lines: transactions, operands of operations, and counts of commands.
 
 ghost use Rattle.std.specs.Prelude.{◌≡◌, ◌++◌, ◌∷◌, OnOk};
 ghost use Rattle.acta_script.specs.Commands.{parse_count};
@@ -10,7 +10,7 @@ use acta_table::TxnId;
 use acta_words::{push_natural, read_i32, read_u16, read_u32};
 use std::alloc::{AllocError, Allocator};
 
-/// The transaction of a word of digits, of 16 bits.
+/// Parses a transaction, of 16 bits.
 pub(crate) fn parse_txn(word: &[u8]) -> Result<TxnId, LineFault>
     ensures { result ≡ parse_txn word.now }
 {
@@ -18,14 +18,14 @@ pub(crate) fn parse_txn(word: &[u8]) -> Result<TxnId, LineFault>
     Ok(TxnId(number))
 }
 
-/// The number of 32 bits of a word of digits.
+/// Parses an unsigned number of 32 bits.
 pub(crate) fn parse_count(word: &[u8]) -> Result<u32, LineFault>
     ensures { result ≡ parse_count word.now }
 {
     read_u32(word).ok_or(LineFault::Number)
 }
 
-/// The number of 32 bits of a word of digits, with a minus before them or not.
+/// Parses a signed number of 32 bits, with an optional minus.
 pub(crate) fn parse_integer(word: &[u8]) -> Result<i32, LineFault>
     ensures { result ≡ parse_integer word.now }
 {

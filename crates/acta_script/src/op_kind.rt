@@ -33,7 +33,7 @@ impl OpKind {
         OpKind::Size,
     ];
 
-    /// The word of the operation, as `read`.
+    /// The word of the operation, such as `read`.
     pub fn word(self) -> &'static str
         ensures { result.now ≡ op_word self }
     {
@@ -56,7 +56,7 @@ impl OpKind {
         !matches!(self, OpKind::Read | OpKind::Get | OpKind::Size)
     }
 
-    /// The form of the line of an event that does the operation, as `do T OBJECT write INT`.
+    /// The form of the line of an event that does the operation, such as `do T OBJECT write INT`.
     pub fn form(self) -> &'static str
         ensures { result.now ≡ op_form self }
     {
@@ -72,7 +72,7 @@ impl OpKind {
         }
     }
 
-    /// The kind of operation that has this word, if one has it.
+    /// The kind of operation with this word, if there is one.
     pub fn of_word(word: &[u8]) -> Option<OpKind>
         ensures { result ≡ result_ok (parse_op_kind word.now) }
     {
@@ -80,7 +80,7 @@ impl OpKind {
     }
 }
 
-/// The kind of operation that has this word.
+/// The kind of operation with this word.
 pub(crate) fn parse_op_kind(word: &[u8]) -> Result<OpKind, LineFault>
     ensures { result ≡ parse_op_kind word.now }
 {

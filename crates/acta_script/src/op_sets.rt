@@ -1,4 +1,4 @@
-//! The words of sets of operations: a minus, or numbers joined by commas.
+//! Sets of operations in lines: a minus, or numbers joined by commas.
 
 ghost use Rattle.std.specs.Prelude.{◌≡◌, ◌==◌, ◌++◌, ◌∷◌, map, decimal, Ok, IfOk, IfErr, OnOk};
 ghost use Rattle.std.specs.List.{slice_split};
@@ -20,7 +20,7 @@ fn parts_of<'a, A: Allocator + Copy>(
     word.split(|byte| *byte == b',').collect(alloc)
 }
 
-// The numbers of 32 bits that are joined by commas, in their order.
+// The numbers of 32 bits, in the order in which the word has them.
 fn parse_numbers<A: Allocator + Copy>(alloc: A, word: &[u8]) -> Result<Vec<OpNo, A>, LineError>
     ensures ok { IfOk result (λ ops. parse_numbers word.now ≡ Ok ops.items) }
     ensures fault { IfErr result (IsWhy (parse_numbers word.now)) }
@@ -34,7 +34,7 @@ fn parse_numbers<A: Allocator + Copy>(alloc: A, word: &[u8]) -> Result<Vec<OpNo,
     Ok(ops)
 }
 
-/// The set of the operations that the word names.
+/// The set of operations that the word names.
 pub(crate) fn parse_operations<A: Allocator + Copy>(
     alloc: A,
     word: &[u8],

@@ -14,7 +14,7 @@ use acta_table::Op;
 use acta_words::{push_integer, push_word};
 use std::alloc::{AllocError, Allocator};
 
-/// The value, where no word is left.
+/// The value, if no word is left.
 pub(crate) fn alone<X: Copy>(x: X, words: &[&[u8]]) -> Result<X, LineFault>
     ensures { result ≡ alone x (map (λ word. word.now) words.now) }
 {
@@ -25,7 +25,7 @@ pub(crate) fn alone<X: Copy>(x: X, words: &[&[u8]]) -> Result<X, LineFault>
     }
 }
 
-// The number that is the one word left.
+// The number that is the only remaining word.
 fn integer_alone(words: &[&[u8]]) -> Result<i32, LineFault>
     ensures { result ≡ integer_alone (map (λ word. word.now) words.now) }
 {
@@ -35,7 +35,7 @@ fn integer_alone(words: &[&[u8]]) -> Result<i32, LineFault>
     }
 }
 
-// The operation of this kind that the words behind it say.
+// The operation of this kind, from the words after its own.
 fn operation_of_kind(kind: OpKind, words: &[&[u8]]) -> Result<Op, LineFault>
     ensures { result ≡ operation_of_kind kind (map (λ word. word.now) words.now) }
 {
@@ -51,7 +51,7 @@ fn operation_of_kind(kind: OpKind, words: &[&[u8]]) -> Result<Op, LineFault>
     }
 }
 
-/// The operation that has this word, and behind it these words.
+/// The operation with this word, followed by these words.
 pub(crate) fn parse_operation(word: &[u8], words: &[&[u8]]) -> Result<Op, LineFault>
     ensures { result ≡ parse_operation word.now (map (λ word. word.now) words.now) }
 {

@@ -1,4 +1,4 @@
-//! Lines of programs: a seat, and the alternatives of which exactly one happens.
+//! Lines of programs: a seat, and the alternatives of which exactly one is done.
 
 ghost use Rattle.std.specs.Prelude.{◌≡◌, ◌<◌, length, map, All, Ok, IfOk, IfErr};
 ghost use Rattle.std.specs.List.{slice_split};
@@ -11,7 +11,7 @@ use acta_table::{Event, Items, Model};
 use acta_words::words_of;
 use std::alloc::{AllocError, Allocator};
 
-/// A line of a program: a seat, and the alternatives of which exactly one happens.
+/// A step of a program: a seat, and the alternatives of which exactly one is done.
 #[derive(Drop)]
 pub struct ProgramLine<A: Allocator> {
     pub seat: u8,
@@ -19,7 +19,7 @@ pub struct ProgramLine<A: Allocator> {
     pub alternatives: Items<Event<A>, A>,
 }
 
-// The parts of the words between the blocks.
+// The parts of the words between the separators `|`.
 fn parts_of<'w, 'a, A: Allocator + Copy>(
     alloc: A,
     words: &'w [&'a [u8]],
@@ -29,7 +29,7 @@ fn parts_of<'w, 'a, A: Allocator + Copy>(
     words.split(|word| *word == b"|".as_slice()).collect(alloc)
 }
 
-// The events of the parts. A fault doesn't end the loop, since a later part may have a lower one.
+// The events of the parts. The loop goes on after a fault, since a later part may have a lower one.
 fn alternatives_in<A: Allocator + Copy>(
     alloc: A,
     model: &Model<A>,
@@ -54,7 +54,7 @@ fn alternatives_in<A: Allocator + Copy>(
     }
 }
 
-// The alternatives that the words say.
+// The alternatives, from these words.
 fn parse_alternatives<A: Allocator + Copy>(
     alloc: A,
     model: &Model<A>,
@@ -68,7 +68,7 @@ fn parse_alternatives<A: Allocator + Copy>(
     alternatives_in(alloc, model, &parts)
 }
 
-// The line of a program that the words say.
+// The step of a program, from these words.
 #[tactic(auto, unfolding(crate::specs::Reading::parse_program_line))]
 fn parse_program_line<A: Allocator + Copy>(
     alloc: A,
@@ -95,9 +95,9 @@ fn parse_program_line<A: Allocator + Copy>(
     }
 }
 
-/// Reads a line of a program: a seat from 1 to the number of seats, and then events, as `read_event` reads them, with
-/// the word `|` between two of them. `Fault` has the lowest fault of the seat and of all events, where a missing event
-/// is the fault `Arity`. `Memory` comes if memory runs out.
+/// Parses a line of a program: a seat from 1 to the number of seats, then events as in `read_event`, separated by the
+/// word `|`. Returns the lowest fault of the seat and of all events, where a missing event is the fault `Arity`, or
+/// `Memory` if memory runs out.
 pub fn read_program_line<A: Allocator + Copy>(
     alloc: A,
     model: &Model<A>,

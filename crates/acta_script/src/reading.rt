@@ -1,5 +1,5 @@
-//! The event that a line says. Each kind of event is read in stages: unknown words, then the number of words, then
-//! numbers, then names. So the fault that is told is the lowest.
+//! Parses the line of an event. Unknown words are reported first, then a wrong number of words, then numbers, then
+//! names, so that the lowest fault is reported.
 
 ghost use Rattle.std.specs.Prelude.{◌≡◌, map, Ok, IfOk, IfErr};
 ghost use Rattle.acta_script.specs.Laws.{IsInModel};
@@ -13,7 +13,7 @@ use crate::numbers::parse_txn;
 use crate::op_sets::parse_operations;
 use crate::operations::parse_operation;
 use acta_table::{Dep, Event, EventKind, Model};
-use acta_words::words_of;
+use acta_words::{few_words, words_of};
 use std::alloc::Allocator;
 
 // begin T CLASS
@@ -96,7 +96,7 @@ fn parse_delegate<A: Allocator + Copy>(alloc: A, words: &[&[u8]]) -> Result<Even
     Ok(Event::Delegate(t, u, ops))
 }
 
-// J I, behind a kind
+// J I, after a kind
 fn form_of_kind<A: Allocator>(kind: Dep, words: &[&[u8]]) -> Result<Event<A>, LineFault>
     ensures parsed { result ≡ form_of_kind kind (map (λ word. word.now) words.now) }
     ensures nowhere { IfOk result NamesNothing }
@@ -175,7 +175,7 @@ fn parse_permit<A: Allocator>(model: &Model<A>, words: &[&[u8]]) -> Result<Event
     Ok(Event::Permit(t, u, object))
 }
 
-/// The kind of event that a line with this first word says.
+/// The kind of event whose line has this first word.
 pub(crate) fn parse_event_kind(word: &[u8]) -> Result<EventKind, LineFault>
     ensures { result ≡ parse_event_kind word.now }
 {
@@ -204,7 +204,7 @@ pub(crate) fn parse_event_kind(word: &[u8]) -> Result<EventKind, LineFault>
     }
 }
 
-// The event of this kind that the words behind the first say.
+// The event of this kind, from the words after the first.
 fn event_of_kind<A: Allocator + Copy>(
     alloc: A,
     model: &Model<A>,
@@ -229,7 +229,7 @@ fn event_of_kind<A: Allocator + Copy>(
     }
 }
 
-/// The event that the words say.
+/// The event of these words.
 #[tactic(auto, unfolding(crate::specs::Reading::parse_event))]
 pub(crate) fn parse_event<A: Allocator + Copy>(
     alloc: A,
@@ -247,9 +247,9 @@ pub(crate) fn parse_event<A: Allocator + Copy>(
     event_of_kind(alloc, model, kind, words)
 }
 
-/// The event that the line says (the line is our form for ACTA's events). `Fault` has the lowest fault of the line, and
-/// `Memory` comes if memory runs out. Transactions have 16 bits, numbers of operations 32, and an INT is a signed
-/// number of 32 bits; whether the model takes the event is no matter of lines.
+/// Parses the line of an event. Returns the lowest fault of the line, or `Memory` if memory runs out. Transactions have
+/// 16 bits, operation numbers 32, and an INT is a signed number of 32 bits. Whether a machine admits the event does not
+/// matter here.
 pub fn read_event<A: Allocator + Copy>(
     alloc: A,
     model: &Model<A>,
@@ -259,6 +259,8 @@ pub fn read_event<A: Allocator + Copy>(
     ensures fault { IfErr result (IsWhy (event_of model.now line.now)) }
     ensures in_model { IfOk result (λ event. IsInModel model.now event) }
 {
-    let words = words_of(alloc, line)?;
-    parse_event(alloc, model, &words)
+    match few_words(line) {
+        Some(words) => parse_event(alloc, model, words.as_slice()),
+        None => parse_event(alloc, model, &words_of(alloc, line)?),
+    }
 }

@@ -10,7 +10,7 @@ use acta_table::Ret;
 use acta_words::{push_integer, push_word, read_i64};
 use std::alloc::{AllocError, Allocator};
 
-/// The words of returns that are no numbers: done, yes and no.
+/// The words of returns that are not numbers: done, yes and no.
 pub const RETURN_WORDS: [&str; 3] = [DONE, YES, NO];
 
 const DONE: &str = "done";
@@ -19,7 +19,7 @@ const YES: &str = "yes";
 
 const NO: &str = "no";
 
-// The return that the word says.
+// The return of this word.
 fn return_named(word: &[u8]) -> Option<Ret>
     ensures { result ≡ return_named word.now }
 {
@@ -34,14 +34,14 @@ fn return_named(word: &[u8]) -> Option<Ret>
     }
 }
 
-/// The return that the word says.
+/// The return of this word.
 pub(crate) fn parse_return_word(word: &[u8]) -> Result<Ret, LineFault>
     ensures { result ≡ ok_or (return_named word.now) Number }
 {
     return_named(word).ok_or(LineFault::Number)
 }
 
-/// The return that the words behind a `=` say.
+/// The return, from the words after a `=`.
 #[tactic(auto, unfolding(crate::specs::Reading::parse_return))]
 pub fn parse_return(words: &[&[u8]]) -> Result<Ret, LineFault>
     ensures { result ≡ parse_return (map (λ word. word.now) words.now) }

@@ -1,4 +1,4 @@
-//! Seated lines: a seat, and behind it an event.
+//! Seated lines: a seat, followed by an event.
 
 ghost use Rattle.std.specs.Prelude.{◌≡◌, map, Ok, IfOk, IfErr};
 ghost use Rattle.acta_script.specs.Laws.{IsInModel};
@@ -12,14 +12,14 @@ use std::alloc::Allocator;
 
 const FIRST_SEAT: u16 = 1;
 
-/// A seat, and the event that is handed in there.
+/// A seat, and the event that is submitted there.
 #[derive(Drop)]
 pub struct Seated<A: Allocator> {
     pub seat: u8,
     pub event: Event<A>,
 }
 
-/// The seat of a word of digits, one of this many.
+/// Parses a seat, from 1 to the number of seats.
 pub(crate) fn parse_seat(seats: u8, word: &[u8]) -> Result<u8, LineFault>
     ensures { result ≡ parse_seat seats word.now }
 {
@@ -31,7 +31,7 @@ pub(crate) fn parse_seat(seats: u8, word: &[u8]) -> Result<u8, LineFault>
     }
 }
 
-/// The event that the words behind a seat say.
+/// The event, from the words after a seat.
 pub(crate) fn event_behind<A: Allocator + Copy>(
     alloc: A,
     model: &Model<A>,
@@ -47,7 +47,7 @@ pub(crate) fn event_behind<A: Allocator + Copy>(
     parse_event(alloc, model, words)
 }
 
-// The seated event that the words say.
+// The seated event of these words.
 #[tactic(auto, unfolding(crate::specs::Reading::parse_seated))]
 fn parse_seated<A: Allocator + Copy>(
     alloc: A,
@@ -70,8 +70,8 @@ fn parse_seated<A: Allocator + Copy>(
     }
 }
 
-/// The seated event that the line says: a seat from 1 to the number of seats, and behind it an event, as `read_event`
-/// reads it. `Fault` has the lowest fault of both parts, and `Memory` comes if memory runs out.
+/// Parses a seated event: a seat from 1 to the number of seats, followed by an event as in `read_event`. Returns the
+/// lowest fault of both parts, or `Memory` if memory runs out.
 pub fn read_seated<A: Allocator + Copy>(
     alloc: A,
     model: &Model<A>,

@@ -1,4 +1,4 @@
-//! The faults of lines in words: what each is called, and what it says in a sentence.
+//! Names and one-sentence descriptions of the faults of lines.
 
 ghost use Rattle.std.specs.Prelude.{◌≡◌};
 ghost use Rattle.acta_script.specs.Words.{fault_name};
@@ -21,7 +21,7 @@ impl LineFault {
         }
     }
 
-    /// When a line has the fault, in a sentence.
+    /// Describes in a sentence when a line has the fault.
     pub fn sentence(self) -> &'static str {
         match self {
             LineFault::Empty => "There are no words.",

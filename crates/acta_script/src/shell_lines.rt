@@ -1,5 +1,5 @@
-//! The lines of a session: an event, a question whether an event would be admitted, or a command. A line that is none of
-//! these is read once: the reader finds what is wrong with it.
+//! Lines of a session: an event, a question whether an event would be admitted, or a command. The reader also diagnoses
+//! other lines, so that each line is read only once.
 
 ghost use Rattle.std.specs.Prelude.{◌≡◌, map, Ok, Err, IfOk, IfErr};
 ghost use Rattle.acta_script.specs.Laws.{IsInModel};
@@ -16,7 +16,7 @@ use acta_table::{Event, EventKind, Model, ObjId, TxnId};
 use acta_words::words_of;
 use std::alloc::{AllocError, AllocFailed, Allocator};
 
-/// What a session is asked to explain.
+/// A topic that a session can explain.
 #[derive(Clone, Copy, PartialEq, Eq, Debug)]
 pub enum Topic {
     /// The events of this kind.
@@ -30,11 +30,11 @@ pub enum Topic {
 /// A command of a session.
 #[derive(Clone, Copy, PartialEq, Eq, Debug)]
 pub enum ShellCommand {
-    /// Back by so many events.
+    /// Back by this many events.
     Undo(u32),
-    /// Forward by so many events.
+    /// Forward by this many events.
     Redo(u32),
-    /// To the place after so many events.
+    /// To the place after this many events.
     Goto(u32),
     /// The transactions, the values of the objects, and the debts.
     State,
@@ -50,21 +50,21 @@ pub enum ShellCommand {
     Edges(Option<TxnId>),
     /// The permits.
     Permits,
-    /// The events that are owed.
+    /// The debts.
     Owed,
-    /// The kept lines.
+    /// The history as kept lines.
     History,
-    /// The event lines.
+    /// The history as event lines.
     Events,
     /// A picture.
     Draw,
-    /// Why the refused event of this number, from 1, was refused, or the last one.
+    /// Why the refused event with this number, from 1, or the last one, was refused.
     Why(Option<u32>),
-    /// Which events would be admitted, or which of the transaction.
+    /// Which events would be admitted, or which of the transaction's.
     Next(Option<TxnId>),
-    /// How programs can end from here, whose lines follow.
+    /// The possible outcomes of programs from here. The programs' lines follow.
     Explore,
-    /// The commands, or one topic.
+    /// The commands, or help on one topic.
     Help(Option<Topic>),
     /// The end of the session.
     Quit,
@@ -81,12 +81,12 @@ pub enum ShellLine<A: Allocator> {
     Command(ShellCommand),
 }
 
-/// Why a line of a session can't be read.
+/// The error when a line of a session is read.
 #[derive(Clone, Copy, PartialEq, Eq, Debug)]
 pub enum ShellFault {
-    /// There is no memory. It says nothing of the line.
+    /// Memory ran out, so the line may be right or wrong.
     Memory,
-    /// The line is wrong here.
+    /// The line is wrong.
     Wrong(Diagnostic),
 }
 
@@ -120,7 +120,7 @@ impl<T: Drop> From<AllocFailed<T>> for ShellFault {
     }
 }
 
-// What was read from the word of this number, or that the word is wrong, which stands for this.
+// The result of reading word number n, or the diagnosis that it is wrong for this part.
 fn at_word<X>(n: usize, part: LinePart, read: Result<X, LineFault>) -> Result<X, Diagnostic>
     ensures { result ≡ at_word n part read }
 {
@@ -134,7 +134,7 @@ fn at_word<X>(n: usize, part: LinePart, read: Result<X, LineFault>) -> Result<X,
     }
 }
 
-// The line has too few words or too many for a command of this kind.
+// The diagnosis for too few or too many words of this kind of command.
 fn wrong_number(kind: ShellKind, place: WordPlace) -> Diagnostic
     ensures { result ≡ wrong_number kind place }
 {
@@ -145,7 +145,7 @@ fn wrong_number(kind: ShellKind, place: WordPlace) -> Diagnostic
     }
 }
 
-// The one word that follows the command.
+// The only word after the command.
 fn one_word<'a>(kind: ShellKind, words: &[&'a [u8]]) -> Result<&'a [u8], Diagnostic>
     ensures ok { IfOk result (λ word. one_word kind (map (λ word. word.now) words.now) ≡ Ok word.now) }
     ensures wrong { IfErr result (λ d. one_word kind (map (λ word. word.now) words.now) ≡ Err d) }
@@ -157,7 +157,7 @@ fn one_word<'a>(kind: ShellKind, words: &[&'a [u8]]) -> Result<&'a [u8], Diagnos
     }
 }
 
-// A command that no word follows.
+// A command without arguments.
 fn parse_alone(
     kind: ShellKind,
     command: ShellCommand,
@@ -172,7 +172,7 @@ fn parse_alone(
     }
 }
 
-// The count that follows the command.
+// The count after the command.
 fn parse_one_count(kind: ShellKind, words: &[&[u8]]) -> Result<u32, Diagnostic>
     ensures { result ≡ parse_one_count kind (map (λ word. word.now) words.now) }
 {
@@ -180,7 +180,7 @@ fn parse_one_count(kind: ShellKind, words: &[&[u8]]) -> Result<u32, Diagnostic>
     at_word(1, LinePart::Count, parse_count(word))
 }
 
-// The count that follows the command, if one does.
+// The count after the command, if there is one.
 fn parse_maybe_count(kind: ShellKind, words: &[&[u8]]) -> Result<Option<u32>, Diagnostic>
     ensures { result ≡ parse_maybe_count kind (map (λ word. word.now) words.now) }
 {
@@ -191,7 +191,7 @@ fn parse_maybe_count(kind: ShellKind, words: &[&[u8]]) -> Result<Option<u32>, Di
     Ok(Some(n))
 }
 
-// The transaction that follows the command.
+// The transaction after the command.
 fn parse_one_txn(kind: ShellKind, words: &[&[u8]]) -> Result<TxnId, Diagnostic>
     ensures { result ≡ parse_one_txn kind (map (λ word. word.now) words.now) }
 {
@@ -199,7 +199,7 @@ fn parse_one_txn(kind: ShellKind, words: &[&[u8]]) -> Result<TxnId, Diagnostic>
     at_word(1, LinePart::Transaction, parse_txn(word))
 }
 
-// The transaction that follows the command, if one does.
+// The transaction after the command, if there is one.
 fn parse_maybe_txn(kind: ShellKind, words: &[&[u8]]) -> Result<Option<TxnId>, Diagnostic>
     ensures { result ≡ parse_maybe_txn kind (map (λ word. word.now) words.now) }
 {
@@ -210,7 +210,7 @@ fn parse_maybe_txn(kind: ShellKind, words: &[&[u8]]) -> Result<Option<TxnId>, Di
     Ok(Some(t))
 }
 
-// The object that follows the command.
+// The object after the command.
 fn parse_one_object<A: Allocator>(
     model: &Model<A>,
     kind: ShellKind,
@@ -222,7 +222,7 @@ fn parse_one_object<A: Allocator>(
     at_word(1, LinePart::Object, parse_object(model, word))
 }
 
-// The topic that has this word.
+// The topic with this word.
 fn parse_topic(word: &[u8]) -> Result<Topic, LineFault>
     ensures { result ≡ parse_topic word.now }
 {
@@ -238,7 +238,7 @@ fn parse_topic(word: &[u8]) -> Result<Topic, LineFault>
     }
 }
 
-// The topic that follows the command.
+// The topic after the command.
 fn parse_one_topic(kind: ShellKind, words: &[&[u8]]) -> Result<Topic, Diagnostic>
     ensures { result ≡ parse_one_topic kind (map (λ word. word.now) words.now) }
 {
@@ -246,7 +246,7 @@ fn parse_one_topic(kind: ShellKind, words: &[&[u8]]) -> Result<Topic, Diagnostic
     at_word(1, LinePart::Event, parse_topic(word))
 }
 
-// The topic that follows the command, if one does.
+// The topic after the command, if there is one.
 fn parse_maybe_topic(kind: ShellKind, words: &[&[u8]]) -> Result<Option<Topic>, Diagnostic>
     ensures { result ≡ parse_maybe_topic kind (map (λ word. word.now) words.now) }
 {
@@ -257,7 +257,7 @@ fn parse_maybe_topic(kind: ShellKind, words: &[&[u8]]) -> Result<Option<Topic>, 
     Ok(Some(topic))
 }
 
-// The command of this kind that the words after the first say.
+// The command of this kind, from the words after the first.
 fn shell_command_of<A: Allocator>(
     model: &Model<A>,
     kind: ShellKind,
@@ -288,7 +288,7 @@ fn shell_command_of<A: Allocator>(
     })
 }
 
-// The event of a line that begins with none of the words of a session.
+// The event of a line that does not begin with a word of a session.
 fn parse_event_line<A: Allocator + Copy>(
     alloc: A,
     model: &Model<A>,
@@ -308,7 +308,7 @@ fn parse_event_line<A: Allocator + Copy>(
     }
 }
 
-// What was found to be wrong, and else the fault alone.
+// The diagnosis, or if there is none the fault alone.
 fn wrong_by(found: Option<Diagnostic>, fault: LineFault) -> Diagnostic
     ensures { result ≡ wrong_by found fault }
 {
@@ -339,7 +339,7 @@ fn parse_can_line<A: Allocator + Copy>(
     }
 }
 
-// The line that the words say.
+// The line of these words.
 #[tactic(auto, unfolding(crate::specs::Shell::parse_shell_line))]
 fn parse_shell_line<A: Allocator + Copy>(
     alloc: A,
@@ -362,10 +362,9 @@ fn parse_shell_line<A: Allocator + Copy>(
     }
 }
 
-/// Reads a line of a session: an event; `can` and an event, which asks whether the event would be admitted; or a
-/// command, whose form `ShellKind::form` has. `Wrong` says where another line is wrong, and what is expected there: in
-/// an event the first word that has the line's lowest fault, as `diagnose_event` does. `Memory` comes if memory runs
-/// out.
+/// Parses a line of a session: an event; `can` and an event, which asks whether the event would be admitted; or a
+/// command, with the form `ShellKind::form`. `Wrong` has the diagnosis of any other line: in an event the first word
+/// with the line's lowest fault, as in `diagnose_event`. Returns `Memory` if memory runs out.
 pub fn read_shell_line<A: Allocator + Copy>(
     alloc: A,
     model: &Model<A>,

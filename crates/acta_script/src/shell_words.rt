@@ -1,17 +1,17 @@
-//! The commands of a session: their words, and the forms of their lines.
+//! The words of session commands, and the forms of their lines.
 
 ghost use Rattle.std.specs.Prelude.{◌≡◌};
 ghost use Rattle.acta_script.specs.Shell.{shell_kind_of};
 ghost use Rattle.acta_script.specs.Words.{shell_form, shell_word};
 
-/// A command of a session, without its arguments. The word `can` and an event after it are no command.
+/// A command of a session, without its arguments. `can`, which an event follows, is not a command.
 #[derive(Clone, Copy, PartialEq, Eq, Debug)]
 pub enum ShellKind {
-    /// Some events back.
+    /// Back by some events.
     Undo,
-    /// Some events forward.
+    /// Forward by some events.
     Redo,
-    /// To the place after so many events.
+    /// To the place after this many events.
     Goto,
     /// The transactions, the values of the objects, and the debts.
     State,
@@ -27,11 +27,11 @@ pub enum ShellKind {
     Edges,
     /// The permits.
     Permits,
-    /// The events that are owed.
+    /// The debts.
     Owed,
-    /// The kept lines.
+    /// The history as kept lines.
     History,
-    /// The event lines.
+    /// The history as event lines.
     Events,
     /// A picture.
     Draw,
@@ -39,16 +39,16 @@ pub enum ShellKind {
     Why,
     /// Which events would be admitted.
     Next,
-    /// How programs can end from here.
+    /// The possible outcomes of programs from here.
     Explore,
-    /// The commands, or one of them.
+    /// The commands, or help on one topic.
     Help,
     /// The end of the session.
     Quit,
 }
 
 impl ShellKind {
-    /// All of them.
+    /// All kinds of command.
     pub const ALL: [ShellKind; 19] = [
         ShellKind::Undo,
         ShellKind::Redo,
@@ -71,7 +71,7 @@ impl ShellKind {
         ShellKind::Quit,
     ];
 
-    /// The first word of the line of the command, as `goto`.
+    /// The first word of the command's line, such as `goto`.
     pub fn word(self) -> &'static str
         ensures { result.now ≡ shell_word self }
     {
@@ -98,8 +98,8 @@ impl ShellKind {
         }
     }
 
-    /// The form of the line of the command, as `goto N`: each word in capitals stands for one that varies, and one in
-    /// brackets may be left out.
+    /// The form of the command's line, such as `goto N`. A word in capitals stands for an argument, and a word in
+    /// brackets is optional.
     pub fn form(self) -> &'static str
         ensures { result.now ≡ shell_form self }
     {
@@ -126,7 +126,7 @@ impl ShellKind {
         }
     }
 
-    /// The command that has this first word, if one has it.
+    /// The command with this first word, if there is one.
     pub fn of_word(word: &[u8]) -> Option<ShellKind>
         ensures { result ≡ shell_kind_of word.now }
     {
@@ -137,8 +137,8 @@ impl ShellKind {
     }
 }
 
-/// The word before an event that is asked about.
+/// The word that asks whether the event after it would be admitted.
 pub const CAN_WORD: &str = "can";
 
-/// The form of the line that asks about an event.
+/// The form of the line that asks whether an event would be admitted.
 pub const CAN_FORM: &str = "can EVENT";

@@ -1,4 +1,4 @@
-//! The words of the statuses of transactions and of the elements of sets.
+//! The words of statuses, and the elements of sets.
 
 ghost use Rattle.std.specs.Prelude.{◌≡◌, ◌++◌, ◌∷◌, flat_map, OnOk};
 ghost use Rattle.std.specs.Fmt.{signed_decimal};
@@ -35,7 +35,7 @@ fn push_marked<A: Allocator>(
     Ok(())
 }
 
-// Writes the numbers, each behind a comma.
+// Writes the numbers, each after a comma.
 fn push_behind<A: Allocator>(line: &mut Vec<u8, A>, numbers: &[i32]) -> Result<(), AllocError>
     ensures { OnOk result (line.new.items ≡ line.old.items ++ flat_map (λ n. 44 ∷ signed_decimal n) numbers.now) }
 {
@@ -45,7 +45,7 @@ fn push_behind<A: Allocator>(line: &mut Vec<u8, A>, numbers: &[i32]) -> Result<(
     Ok(())
 }
 
-/// Writes a space, and the elements of a set between braces, with a comma between each two.
+/// Writes a space, and the elements of a set in braces, separated by commas.
 pub fn push_elements<A: Allocator>(
     line: &mut Vec<u8, A>,
     elements: &[i32],

@@ -19,7 +19,7 @@ use acta_table::{ClassId, Dep, Event, EventKind, Model, ObjId, Op, TxnId};
 use acta_words::push_word;
 use std::alloc::{AllocError, Allocator};
 
-// Writes the first word of the line of an event of this kind, and the transaction behind it.
+// Writes the first word of the line of an event of this kind, and the transaction.
 fn push_start<A: Allocator>(
     line: &mut Vec<u8, A>,
     kind: EventKind,
@@ -31,7 +31,7 @@ fn push_start<A: Allocator>(
     push_txn(line, txn)
 }
 
-// The same, and a second transaction.
+// The same, followed by a second transaction.
 fn push_two<A: Allocator>(
     line: &mut Vec<u8, A>,
     kind: EventKind,
@@ -44,7 +44,7 @@ fn push_two<A: Allocator>(
     push_txn(line, u)
 }
 
-// The same, and the class that the second starts with.
+// The same, followed by the class that the second starts with.
 fn push_started<A: Allocator>(
     line: &mut Vec<u8, A>,
     model: &Model<A>,
@@ -121,8 +121,8 @@ fn push_permit<A: Allocator>(
     push_word(line, object_name(model, object))
 }
 
-/// Adds the line of the event, with single spaces and its operations ascending, each once. A class or an object that is
-/// not in the model has an empty name.
+/// Appends the line of the event, with single spaces and its operations ascending, each once. A class or an object that
+/// is not in the model has an empty name.
 #[tactic(auto, unfolding(crate::specs::Writing::event_line))]
 pub fn push_event<A: Allocator>(
     line: &mut Vec<u8, A>,
@@ -151,7 +151,7 @@ pub fn push_event<A: Allocator>(
     }
 }
 
-/// The line of the event, as `push_event` adds it. Read again it gives the event, if its class and its object are in
+/// The line of the event, as `push_event` writes it. Reading it gives the same event if its class and its object are in
 /// the model.
 pub fn write_event<A: Allocator + Copy>(
     alloc: A,

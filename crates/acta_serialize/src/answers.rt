@@ -27,7 +27,7 @@ fn order_line<A: Allocator>(alloc: A, order: &[TxnId]) -> Result<Vec<u8, A>, All
     Ok(line)
 }
 
-/// What is written of a serial order.
+/// The report on a serial order.
 pub(crate) fn write_order<A: Allocator + Copy>(
     alloc: A,
     order: &[TxnId],
@@ -43,7 +43,7 @@ pub(crate) fn write_order<A: Allocator + Copy>(
     })
 }
 
-/// What is written where no order is serial.
+/// The report that no order is serial, and why.
 pub(crate) fn write_none<A: Handle>(
     alloc: A,
     history: &History<'_, A>,
@@ -61,7 +61,7 @@ pub(crate) fn write_none<A: Handle>(
     })
 }
 
-// The line that says that the search was given up after so many states.
+// The line that the search was given up after this many states.
 fn undecided_line<A: Allocator>(alloc: A, most: u32) -> Result<Vec<u8, A>, AllocError>
     ensures { IfOk result (λ line. line.items ≡ undecided_line most) }
 {
@@ -72,7 +72,7 @@ fn undecided_line<A: Allocator>(alloc: A, most: u32) -> Result<Vec<u8, A>, Alloc
     Ok(line)
 }
 
-/// What is written where the search was given up after so many states.
+/// The report if the search was given up after this many states.
 pub(crate) fn write_undecided<A: Allocator + Copy>(
     alloc: A,
     most: u32,

@@ -1,4 +1,4 @@
-//! What the words of a command line of `serialize` ask for.
+//! The command line of `serialize`.
 
 use acta_args::{
     CommandLine, ModelName, UsageFault, flag, model_arg, model_named, option, with_arg,
@@ -8,20 +8,20 @@ use clap::builder::ValueParser;
 use clap::{ArgMatches, Command};
 use std::alloc::{AllocError, Global};
 
-/// What a command line asks for: a serial order of the kept lines of the standard input on a model.
+/// A parsed command line: it asks for a serial order of the kept lines of the standard input on a model.
 #[derive(Clone, Copy, PartialEq, Eq, Debug)]
 pub struct Asked<'a> {
-    /// The orders among which one is searched.
+    /// The orders among which the search may choose.
     pub orders: Orders,
     /// How many states may be searched.
     pub most: u32,
     pub model: ModelName<'a>,
 }
 
-// How many states may be searched if the command line does not say.
+// How many states may be searched by default.
 const MOST_STATES: u32 = 20_000_000;
 
-// What the matches ask for.
+// Converts the matches.
 fn asked_by<'a>(matches: &ArgMatches<'a>) -> Result<Asked<'a>, UsageFault> {
     let orders = if matches.get_flag("real-time") {
         Orders::RealTime

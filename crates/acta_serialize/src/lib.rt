@@ -1,6 +1,6 @@
-//! The command `serialize`: a serial order of the committed transactions of a history, or that there is none, and why.
+//! The command `serialize`: finds a serial order of the committed transactions of a history, or explains why there is none.
 //!
-//! The search is that of `acta_order`. A call that allocates returns `Err` if memory runs out.
+//! `acta_order` does the search. A call that allocates returns `Err` if memory runs out.
 #![tactic(auto)]
 
 mod answers;

@@ -1,19 +1,20 @@
 //! Why no order is serial, in words.
 
-use acta_explain::{NonBlankLine, Prose, name_text, put, put_lacking, put_return};
+use acta_explain::{Prose, name_text, put, put_lacking, put_return};
+use acta_io::NonBlankLine;
 use acta_machine::Handle;
 use acta_order::{Block, Cause, DeadEnd};
 use acta_table::{Event, Kept, Model, OpNo, Ret, TxnId};
 use acta_words::words_of;
 use std::alloc::AllocError;
 
-// So many of the last transactions are named that an order begins with.
+// The most transactions of a front that are named, the last ones.
 const MOST_NAMED: usize = 12;
 
-// Of so many transactions it is written why they can't come next.
+// The most transactions of a dead end that are explained.
 const MOST_BLOCKS: usize = 8;
 
-/// A history, with the lines of the input that say it.
+/// A history, with its lines in the input.
 #[derive(Drop)]
 pub(crate) struct History<'a, A: Handle> {
     pub(crate) alloc: A,
@@ -37,7 +38,7 @@ impl<'a, A: Handle> History<'a, A> {
         None
     }
 
-    // Adds the line at this position as the input has it, without its return.
+    // Adds the line at this position as written in the input, without its return.
     fn put_line(&self, prose: Prose<A>, position: usize) -> Prose<A> {
         let Some(line) = self.lines.get(position) else {
             return prose;
@@ -94,7 +95,7 @@ impl<'a, A: Handle> History<'a, A> {
         put_recorded(prose, block.would).put("\n")
     }
 
-    // Adds why transactions can't come after these.
+    // Adds why no transaction can come after a front.
     fn put_dead_end(&self, mut prose: Prose<A>, end: &DeadEnd<A>) -> Prose<A> {
         let blocks = end.blocks.as_slice();
         for block in blocks.iter().take(MOST_BLOCKS) {
@@ -109,7 +110,7 @@ impl<'a, A: Handle> History<'a, A> {
     }
 }
 
-// Adds the transactions that an order begins with.
+// Adds the transactions of a front.
 fn put_front<A: Handle>(prose: Prose<A>, front: &[TxnId]) -> Prose<A> {
     let passed = front.len().saturating_sub(MOST_NAMED);
     let mut prose = prose.put("  after");

@@ -1,4 +1,4 @@
-//! What is written for the bytes of a model and of a history.
+//! The report for the bytes of a model and of a history.
 
 ghost use Rattle.std.specs.Prelude.{◌≡◌, ◌≤◌, ◌+◌, false, IfOk, IfSome};
 ghost use Rattle.acta_io.specs.Outcome.{AnswersBy, FailsBy, IsUnreadTooLong, KeepsUnread, WritesBy, reason_of};
@@ -8,56 +8,54 @@ ghost use Rattle.acta_serialize.specs.Answers.{IsAnswer, IsAnswerOn, IsOfHistory
 use crate::answers::{write_none, write_order, write_undecided};
 use crate::args::Asked;
 use crate::reasons::History;
-use acta_explain::non_blank_lines;
 use acta_io::{
-    KeptLines, ModelError, Outcome, ReadFault, Report, Sink, Source, read_lines, read_model,
-    read_within, refuse_by, refuse_line, refuse_model, write_report,
+    KeptLines, ModelError, NonBlankLine, Outcome, ReadFault, Report, Sink, Source, read_lines,
+    read_model, read_within, refuse_by, refuse_line, refuse_model, write_report,
 };
 use acta_machine::Handle;
 use acta_order::{Cause, Order, OrderFault, serial_order_of};
 use acta_table::{Kept, Model};
 use std::alloc::AllocError;
 
-// What is written where no order is serial.
+// The report that no order is serial.
 fn explain_none<A: Handle>(
     alloc: A,
     model: &Model<A>,
-    input: &[u8],
+    lines: &[NonBlankLine<'_>],
     kept: &[Kept<A>],
     cause: &Cause<A>,
 ) -> Result<Report<A>, AllocError>
     ensures { IfOk result (λ report. SaysNone (output_of report)) }
 {
-    let lines = non_blank_lines(alloc, input)?;
     let history = History {
         alloc,
         model,
         kept,
-        lines: lines.as_slice(),
+        lines,
     };
     write_none(alloc, &history, cause)
 }
 
-// What is written of a history.
+// The report on a history.
 fn serialize<A: Handle>(
     alloc: A,
     asked: Asked<'_>,
     model: &Model<A>,
-    input: &[u8],
+    lines: &[NonBlankLine<'_>],
     kept: &[Kept<A>],
 ) -> Result<Report<A>, AllocError>
     ensures { IfOk result (λ report. IsOfHistory asked.entry.orders asked.entry.most model.now kept.now (output_of report)) }
 {
     match serial_order_of(alloc, model, kept, asked.orders, u64::from(asked.most)) {
         Ok(Order::Found(order)) => write_order(alloc, order.as_slice()),
-        Ok(Order::NoOrder(cause)) => explain_none(alloc, model, input, kept, &cause),
+        Ok(Order::NoOrder(cause)) => explain_none(alloc, model, lines, kept, &cause),
         Err(OrderFault::TooMany) => write_undecided(alloc, asked.most),
         Err(OrderFault::TooLong) => refuse_by(alloc, b"serialize fault 1"),
         Err(OrderFault::Memory) => Err(AllocError),
     }
 }
 
-// What is written on a model.
+// The report on a model.
 fn serialize_on<A: Handle>(
     alloc: A,
     asked: Asked<'_>,
@@ -69,11 +67,17 @@ fn serialize_on<A: Handle>(
     let read = read_lines(alloc, &KeptLines { alloc, model }, input)?;
     match read.stop {
         Some(stop) => refuse_line(alloc, stop),
-        None => serialize(alloc, asked, model, input, read.parsed.as_slice()),
+        None => serialize(
+            alloc,
+            asked,
+            model,
+            read.lines.as_slice(),
+            read.parsed.as_slice(),
+        ),
     }
 }
 
-/// What is written for the bytes of a model and of a history's kept lines.
+/// The report for the bytes of a model and of a history's kept lines.
 pub fn serialized<A: Handle>(
     alloc: A,
     asked: Asked<'_>,
@@ -89,8 +93,8 @@ pub fn serialized<A: Handle>(
     }
 }
 
-/// Reads the whole input, and writes in one go a serial order of its kept lines on the model of these bytes, or that there
-/// is none. `Unread` and `Unwritten` as for the other commands: where the input can't be read, nothing is written.
+/// Reads the whole input, and writes at once a serial order of its kept lines on the model of these bytes, or that there is
+/// none. Returns `Unread` and `Unwritten` as the other commands do: if the input can't be read, nothing is written.
 pub fn serialize_tool<A: Handle, S: Source, K: Sink>(
     alloc: A,
     asked: Asked<'_>,

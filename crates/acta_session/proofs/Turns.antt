@@ -44,7 +44,7 @@ module _ {A C : Type 0} (shows : Shows A) (since : C → List Act → C → Type
     last = acts-append old one.acts two.acts ∙ ap (λ (p : Moment A). after_acts p two.acts) (one.last ∙ same) ∙ two.last;
   }
 
-  -- what has happened, where nothing happened since
+  -- the acts so far, if nothing happened since
   pub begun-of : (first c d : C) (old : Moment A) (s : ShellState A) (due : List (List ℕ)) (front : List ℕ) (b : Bool)
       → HasTalked shows (since first) c old s due front b → d ≡ c → HasBegun shows (since first) d old
   begun-of first c d old s due front b talk same = (talk.acts, subst (λ (e : C). since first talk.acts e) (sym same) talk.happened, talk.in_turn)
@@ -60,7 +60,7 @@ module _ {A C : Type 0} (shows : Shows A) (since : C → List Act → C → Type
         (subst (λ (p : Moment A). AreInTurn shows p two.0) (sym (one.last ∙ same)) two.2),
   )
 
-  -- a stretch that goes on with a byte
+  -- a stretch that continues with a byte
   pub stretch : (first c d : C) (old : Moment A) (s t : ShellState A) (front last ys rest : List ℕ) (b : ℕ) (due : List (List ℕ)) (over : Bool)
       → HasTalked shows (since first) c old s (cut front ys).lines last false → (cut front ys).front ≡ last → ys ≡ b ∷ rest
       → HasTalked shows (since c) d (at_front s (cut front (b ∷ rest))) t due (cut front (b ∷ rest)).front over
@@ -97,7 +97,7 @@ module _ {A C : Type 0} (shows : Shows A) (since : C → List Act → C → Type
     last = λ i. moment (sym same i) (if sym quit i then [] else rest) last (b || sym quit i);
   }
 
-  -- the same, where it is known whether the line ends the session
+  -- the same, if it is known whether the line ends the session
   pub talked-last : (first d : C) (s t : ShellState A) (line bytes last : List ℕ) (rest : List (List ℕ)) (b over ends : Bool)
       → shows s line bytes → since first (Shown bytes ∷ []) d → t ≡ after_line s line → over ≡ quits s line → over ≡ ends
       → HasTalked shows (since first) d (moment s (line ∷ rest) last b) t (if ends then [] else rest) last (b || ends)

@@ -1,21 +1,21 @@
--- Remarks: words beside a line of a reply, and lines of words below it, each behind a bar.
+-- Remarks: words beside a line of a reply, and lines of words below it, each after a bar.
 use Rattle.std.specs.Prelude.{◌≡◌, ℕ, not, List, [], ◌∷◌, ◌++◌, codes, filter, map}
 use Rattle.acta_words.specs.Text.{is_line_feed, lines_left, text_of}
 
--- the bytes but for their line feeds
+-- the bytes without their line feeds
 abbrev pub one_line : List ℕ → List ℕ
 one_line bytes = filter (λ b. not (is_line_feed b)) bytes
 
--- what stands beside a line: words after a gap, or nothing
+-- the part beside a line: words after a gap, or nothing
 abbrev pub beside : List ℕ → List ℕ → List ℕ
 beside gap [] = []
 beside gap (b ∷ bs) = gap ++ one_line (b ∷ bs)
 
--- a line of words, behind a bar
+-- a line of words, after a bar
 abbrev pub bar_line : List ℕ → List ℕ
 bar_line line = codes "  | " ++ line
 
--- what stands below a line: the lines of some words, each behind a bar
+-- the part below a line: the lines of some words, each after a bar
 abbrev pub bars_text : List ℕ → List ℕ
 bars_text below = text_of (map bar_line (lines_left below))
 
@@ -23,10 +23,10 @@ bars_text below = text_of (map bar_line (lines_left below))
 abbrev pub remarked_text : List ℕ → List ℕ → List ℕ → List ℕ → List ℕ
 remarked_text line gap words below = text_of ((line ++ beside gap words) ∷ []) ++ bars_text below
 
--- the text is this line, beside which words may stand after a gap, and below it lines behind blocks
+-- the text is this line, possibly with words beside it after a gap, and lines after bars below it
 abbrev pub IsRemarked : List ℕ → List ℕ → List ℕ → Type 0
 IsRemarked line gap text = (words : List ℕ) × (below : List ℕ) × (text ≡ remarked_text line gap words below)
 
--- the text is these lines, below which there may be lines behind blocks
+-- the text is these lines, possibly with lines after bars below them
 abbrev pub AreRemarked : List (List ℕ) → List ℕ → Type 0
 AreRemarked lines text = (below : List ℕ) × (text ≡ text_of lines ++ bars_text below)

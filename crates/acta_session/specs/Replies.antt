@@ -1,4 +1,4 @@
--- What the reply to a line of a session says.
+-- The replies to the lines of a session.
 use Rattle.std.specs.Prelude.{◌≡◌, ℕ, ◌-◌, ◌==◌, Bool, true, false, List, [], ◌∷◌, ◌++◌, codes, decimal, length, map, if◌then◌else◌, Option, Some, None, Result, Ok, Err}
 use Rattle.std.specs.declared.vec.Vec.{Vec}
 use Rattle.acta_table.specs.declared.answer.Answer.{Answer}
@@ -24,11 +24,11 @@ use Rattle.acta_session.specs.declared.typed.Typed.TheVariants.{Comment, End, Li
 use Rattle.acta_session.specs.Remarks.{AreRemarked, IsRemarked}
 use Rattle.acta_session.specs.Shells.{ShellState, can_move, place_after, state_of, typed_of}
 
--- what separates an answer from the words beside it
+-- the separator between an answer and the words beside it
 abbrev pub after_answer : List ℕ
 after_answer = codes "    "
 
--- what separates the name of a fault from the words beside it
+-- the separator between the name of a fault and the words beside it
 abbrev pub after_name : List ℕ
 after_name = codes ", "
 
@@ -36,7 +36,7 @@ after_name = codes ", "
 abbrev pub place_line : ℕ → List ℕ
 place_line n = line_of (codes "at" ∷ decimal n ∷ [])
 
--- that only so many events can be moved over
+-- the words that only this many events can be moved over
 abbrev pub few_events : ℕ → List ℕ
 few_events n =
     if n == 0 then codes "no event"
@@ -46,14 +46,14 @@ few_events n =
 abbrev pub events_left : ℕ → List ℕ → List ℕ
 events_left n action = few_events n ++ codes " can be " ++ action ++ codes " (nothing was done)"
 
--- to which places one can move
+-- the words with the places to which one can move
 unfoldable pub all_places : ℕ → List ℕ
 all_places last = codes "the places are 0 to" ++ (32 ∷ decimal last)
 
 abbrev pub places_line : ℕ → List ℕ
 places_line last = all_places last ++ codes " (nothing was done)"
 
--- that a move can't be made, and how far one can
+-- the line that a move can't be made, and how far one can move
 abbrev pub no_move_line : {A : Type 0} → Session A → ShellCommand → List ℕ
 no_move_line s (Undo n) = events_left s.at (codes "taken back")
 no_move_line s (Redo n) = events_left (length s.history - s.at) (codes "done again")
@@ -72,18 +72,18 @@ abbrev pub refusal_number : List Answer → Option ℕ → ℕ
 refusal_number refusals (Some n) = n
 refusal_number refusals None = length refusals
 
--- which numbers the refused events have, of which there are so many
+-- the line with the numbers of the refused events, by how many there are
 abbrev pub refused_line : ℕ → List ℕ
 refused_line n =
     if n == 0 then codes "no event was refused"
     else codes "the refused events have the numbers 1 to" ++ (32 ∷ decimal n)
 
--- the reply about a refusal begins with the answer that it was
+-- the reply about a refusal begins with its answer
 abbrev pub SaysWhy : List Answer → Option Answer → List ℕ → Type 0
 SaysWhy refusals (Some answer) text = IsRemarked (answer_line answer) after_answer text
 SaysWhy refusals None text = text ≡ text_of (refused_line (length refusals) ∷ [])
 
--- the lines with which the reply to a command begins that asks for the state
+-- the lines with which the reply to a command about the state begins
 abbrev pub lines_for : {A : Type 0} → Session A → ShellCommand → List (List ℕ)
 lines_for s command.State = state_lines (state_of s)
 lines_for s (Status t) = status_line (state_of s) t ∷ []
@@ -94,14 +94,14 @@ lines_for s (Edges t) = edge_lines (state_of s) t
 lines_for s Owed = map owed_line (debts_in (state_of s))
 lines_for s _ = []
 
--- what the words of a session are to say: of a command on a machine, and of programs that go on from there
+-- relations: the text that may answer a command on a machine, and programs that continue from there
 abbrev pub SaysCommand : Type 0 → Type 1
 SaysCommand A = State A → ShellCommand → Vec ℕ A → Type 0
 
 abbrev pub SaysEnds : Type 0 → Type 1
 SaysEnds A = State A → List (ProgramLine A) → Vec ℕ A → Type 0
 
--- what the reply to a command says
+-- the text is a reply to the command
 abbrev pub SaysOf : {A : Type 0} → SaysCommand A → ShellState A → ShellCommand → Vec ℕ A → Type 0
 SaysOf says s (Undo n) text = text.items ≡ text_of (move_line s.session (Undo n) ∷ [])
 SaysOf says s (Redo n) text = text.items ≡ text_of (move_line s.session (Redo n) ∷ [])
@@ -122,21 +122,21 @@ abbrev pub SaysFault : List (List ℕ) → Diagnostic → List ℕ → Type 0
 SaysFault [] d text = text ≡ []
 SaysFault (word ∷ words) d text = IsRemarked (fault_name d.fault) after_name text
 
--- what the reply to a line says, as it was read: first the answer to the event, which is the machine's
+-- the text is a reply to the parsed line: for an event, it begins with the machine's answer
 abbrev pub Says : {A : Type 0} → SaysCommand A → ShellState A → List (List ℕ) → Result (ShellLine A) Diagnostic → Vec ℕ A → Type 0
 Says says s words (Ok (parsed.Event event)) text = IsRemarked (answer_line (answer_to (state_of s.session) event)) after_answer text.items
 Says says s words (Ok (parsed.Can event)) text = IsRemarked (answer_line (answer_to (state_of s.session) event)) after_answer text.items
 Says says s words (Ok (parsed.Command command)) text = SaysOf says s command text
 Says says s words (Err d) text = SaysFault words d text.items
 
--- what the reply to a line says where lines of programs are read: the one that ends them is answered by their ends
+-- the text is a reply to a line of programs; the line that ends them is answered with their ends
 abbrev pub SaysTyped : {A : Type 0} → SaysEnds A → ShellState A → Typed A → Vec ℕ A → Type 0
 SaysTyped says_ends s Comment text = text.items ≡ []
 SaysTyped says_ends s End text = says_ends (state_of s.session) s.programs text
 SaysTyped says_ends s (Line line) text = text.items ≡ []
 SaysTyped says_ends s (Faulty fault) text = IsRemarked (fault_name fault) after_name text.items
 
--- what the reply to a line says, by whether lines of programs are read
+-- the text is a reply to the line, depending on whether lines of programs are read
 abbrev pub SaysWhile : {A : Type 0} → Bool → SaysCommand A → SaysEnds A → ShellState A → List ℕ → Vec ℕ A → Type 0
 SaysWhile true says says_ends s line text = SaysTyped says_ends s (typed_of s.session.model line) text
 SaysWhile false says says_ends s line text = Says says s (words_of line) (shell_line_of s.session.model line) text

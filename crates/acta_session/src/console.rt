@@ -1,4 +1,4 @@
-//! A console: bytes are read from it and shown on it.
+//! A console: a session reads bytes from it and shows bytes on it.
 
 ghost use Rattle.std.specs.Prelude.{◌≡◌, ◌<◌, List, [], ◌∷◌, ◌++◌, length, take, IfOk, OnOk};
 ghost use Rattle.std.specs.Io.{ReadsAtMost};
@@ -9,25 +9,25 @@ use std::io::{Read, Write};
 
 /// Where a session reads its lines and shows its replies.
 pub trait Console {
-    // What was read and shown from one state of the console to another, act by act.
+    // The reads and writes between two states of the console.
     ghost since: { Self → List Act → Self → Type 0 };
 
-    /// Reads into the buffer, as `Read::read` does. No byte means the end of the input.
+    /// Reads into the buffer, as `Read::read` does. 0 bytes mean the end of the input.
     fn read(&mut self, buf: &mut [u8]) -> io::Result<usize>
         ensures bound { ReadsAtMost result buf.new }
         ensures read { IfOk result (λ n. 0 < length buf.new → since self.old (read_act (take n buf.new) ∷ []) self.new) };
 
-    /// Writes all the bytes, and flushes them. After `Err` part of them may have been written.
+    /// Writes all the bytes, and flushes them. On `Err` part of them may have been written.
     fn show(&mut self, bytes: &[u8]) -> io::Result<()>
         ensures shown { OnOk result (since self.old (Shown bytes.now ∷ []) self.new) };
 
-    // Nothing happens from a state to itself, and what happened in two stretches happened in both.
+    // Nothing happens between a state and itself, and the acts of two consecutive stretches add up.
     ghost nothing: { (c : Self) → since c [] c };
 
     ghost further: { (c d e : Self) (xs ys : List Act) → since c xs d → since d ys e → since c (xs ++ ys) e };
 }
 
-/// A reader and a writer as a console. Contracts see which bytes the reader has left and which the writer holds, if those are
+/// A reader and a writer as a console. Contracts see the bytes that the reader has left and those that were written, if
 /// known.
 #[derive(Drop)]
 pub struct Streams<R: Read, W: Write> {
@@ -36,7 +36,7 @@ pub struct Streams<R: Read, W: Write> {
 }
 
 impl<R: Read, W: Write> Streams<R, W> {
-    /// The console of these.
+    /// The console with this reader and this writer.
     pub fn new(reader: R, writer: W) -> Streams<R, W>
         ensures reader { result.reader ≡ reader }
         ensures writer { result.writer ≡ writer }

@@ -32,7 +32,7 @@ fn with_prompt<A: Allocator>(
     Ok(text)
 }
 
-// Shows the reply to a line, and then the prompt, unless the line ends the session. Answers whether it does.
+// Shows the reply to a line, and then the prompt, unless the line ends the session. Returns whether it does.
 fn answer<
     A: Handle,
     W: Words<Event<A>, Machine<A>, Model<A>, ProgramLine<A>, Vec<u8, A>>,
@@ -56,7 +56,7 @@ fn answer<
     }
 }
 
-// Takes a byte: the end of a line, which is answered, or one byte more of it. Answers whether the line ends the session.
+// Takes a byte: the end of a line, which is answered, or one more byte of it. Returns whether the line ends the session.
 fn take_byte<
     A: Handle,
     W: Words<Event<A>, Machine<A>, Model<A>, ProgramLine<A>, Vec<u8, A>>,
@@ -84,8 +84,8 @@ fn take_byte<
     Ok(is_over)
 }
 
-// Answers the lines that the bytes end, after the front of the first of them. Answers whether one of them ends the session;
-// no line behind it is answered.
+// Answers the lines that these bytes complete; `front` has the start of the first of them. Returns whether one of them ends
+// the session; the lines after that are not answered.
 fn answer_lines<
     A: Handle,
     W: Words<Event<A>, Machine<A>, Model<A>, ProgramLine<A>, Vec<u8, A>>,
@@ -111,10 +111,10 @@ fn answer_lines<
     Ok(false)
 }
 
-/// Reads lines from the console and answers each, until one ends the session or there are no more; the prompt follows each reply.
-/// It reads on only where every line that was read has been answered, and the answers were written and flushed. `Done` at the end.
-/// `Unread(Device)` if a read fails, `Unread(Memory)` if memory runs out, `Unwritten` if a reply cannot be shown, and
-/// `Unread(TooMuch)` after 4,294,967,295 reads. If memory runs out, what was shown until then are the replies to the first lines.
+/// Reads lines from the console and answers each, until one ends the session or the input ends; the prompt follows each
+/// reply. Reads more only after all lines read so far are answered, and the replies written and flushed. Returns `Done` at
+/// the end, `Unread(Device)` if a read fails, `Unread(Memory)` if memory runs out, `Unwritten` if a reply cannot be shown,
+/// and `Unread(TooMuch)` after 4,294,967,295 reads. If memory runs out, the replies to the first lines have been shown.
 pub fn converse<
     A: Handle,
     W: Words<Event<A>, Machine<A>, Model<A>, ProgramLine<A>, Vec<u8, A>>,
@@ -142,7 +142,7 @@ pub fn converse<
     Outcome::Unread(ReadFault::TooMuch)
 }
 
-// Answers the end of the input, if lines of programs are read: it ends them as an empty line does.
+// Answers the end of the input: if lines of programs are read, it ends them as an empty line does.
 fn answer_end<
     A: Handle,
     W: Words<Event<A>, Machine<A>, Model<A>, ProgramLine<A>, Vec<u8, A>>,
@@ -160,7 +160,7 @@ fn answer_end<
     }
 }
 
-// Answers the last line, which has no line feed, if it has a byte, and then the end of the input.
+// Answers a last line without a line feed, unless it is empty, and then the end of the input.
 fn answer_last<
     A: Handle,
     W: Words<Event<A>, Machine<A>, Model<A>, ProgramLine<A>, Vec<u8, A>>,

@@ -1,9 +1,9 @@
 //! An interactive session on a model: each line is answered before the next is read.
 //!
 //! A line is an event, the question whether an event would be admitted, or a command, such as `undo`; after `explore` it is
-//! a line of programs. `Shell` answers lines, and `converse` reads them from a console and shows the replies. Whoever makes
-//! a session gives it its `Words`: answers, places and lines about the state are the session's own, and words stand
-//! beside them. A call that allocates returns `Err`, or `Unread(Memory)`, if memory runs out.
+//! a line of programs. `Shell` answers lines, and `converse` reads them from a console and shows the replies. The session
+//! itself writes answers, places and the lines about the state; the `Words` that its caller supplies add remarks to them. A
+//! call that allocates returns `Err`, or `Unread(Memory)`, if memory runs out.
 #![tactic(auto)]
 
 mod console;

@@ -1,4 +1,4 @@
-//! The replies to moves, and to a question about a refusal that there was not.
+//! The replies to moves, and to a question about a refusal that does not exist.
 
 ghost use Rattle.std.specs.Prelude.{◌≡◌, ◌++◌, ◌∷◌, [], decimal, length, IfOk, OnOk};
 ghost use Rattle.acta_words.specs.Text.{text_of};
@@ -7,7 +7,7 @@ ghost use Rattle.acta_session.specs.Replies.{all_places, events_left, explore_li
 use acta_words::{push_line, push_natural};
 use std::alloc::{AllocError, Allocator};
 
-/// The line that says the place.
+/// The line with the place after a move.
 pub(crate) fn place_text<A: Allocator>(alloc: A, place: u32) -> Result<Vec<u8, A>, AllocError>
     ensures { IfOk result (λ text. text.items ≡ text_of (place_line place ∷ [])) }
 {
@@ -18,7 +18,7 @@ pub(crate) fn place_text<A: Allocator>(alloc: A, place: u32) -> Result<Vec<u8, A
     Ok(text)
 }
 
-// Adds that there are so few events.
+// Adds that there are only this many events.
 fn push_few<A: Allocator>(text: &mut Vec<u8, A>, count: u32) -> Result<(), AllocError>
     ensures { OnOk result (text.new.items ≡ text.old.items ++ few_events count) }
 {
@@ -33,7 +33,7 @@ fn push_few<A: Allocator>(text: &mut Vec<u8, A>, count: u32) -> Result<(), Alloc
     text.extend_from_slice(b" events")
 }
 
-/// The line that says that only so many events can be taken back, or done again.
+/// The line that only this many events can be undone, or redone.
 pub(crate) fn left_text<A: Allocator>(
     alloc: A,
     count: u32,
@@ -50,7 +50,7 @@ pub(crate) fn left_text<A: Allocator>(
     Ok(text)
 }
 
-// Adds to which places one can move.
+// Adds the places to which one can move.
 #[tactic(auto, unfolding(crate::specs::Replies::all_places))]
 fn push_places<A: Allocator>(text: &mut Vec<u8, A>, last: u32) -> Result<(), AllocError>
     ensures { OnOk result (text.new.items ≡ text.old.items ++ all_places last) }
@@ -59,7 +59,7 @@ fn push_places<A: Allocator>(text: &mut Vec<u8, A>, last: u32) -> Result<(), All
     push_natural(text, u64::from(last))
 }
 
-/// The line that says to which places one can move.
+/// The line with the places to which one can move.
 pub(crate) fn places_text<A: Allocator>(alloc: A, last: u32) -> Result<Vec<u8, A>, AllocError>
     ensures { IfOk result (λ text. text.items ≡ text_of (places_line last ∷ [])) }
 {
@@ -70,7 +70,7 @@ pub(crate) fn places_text<A: Allocator>(alloc: A, last: u32) -> Result<Vec<u8, A
     Ok(text)
 }
 
-/// The line that says which numbers the refused events have, of which there are so many.
+/// The line with the numbers of the refused events, of which there are `count`.
 pub(crate) fn refused_text<A: Allocator>(alloc: A, count: usize) -> Result<Vec<u8, A>, AllocError>
     ensures { IfOk result (λ text. text.items ≡ text_of (refused_line count ∷ [])) }
 {
@@ -85,7 +85,7 @@ pub(crate) fn refused_text<A: Allocator>(alloc: A, count: usize) -> Result<Vec<u
     Ok(text)
 }
 
-/// The line that says what is read after `explore`.
+/// The reply to `explore`.
 pub(crate) fn explore_text<A: Allocator>(alloc: A) -> Result<Vec<u8, A>, AllocError>
     ensures { IfOk result (λ text. text.items ≡ text_of (explore_line ∷ [])) }
 {

@@ -1,5 +1,5 @@
-//! Remarks: words that stand beside a line of a reply, and lines of words below it, each behind a bar. Whoever reads the
-//! answers alone can tell them apart.
+//! Remarks: words beside a line of a reply, and lines of words below it, each after a bar. The layout separates them from
+//! the answers.
 
 ghost use Rattle.std.specs.Prelude.{◌≡◌, ◌++◌, ◌∷◌, [], IfOk, OnOk};
 ghost use Rattle.acta_session.specs.Remarks.{bar_line, bars_text, beside, one_line, remarked_text};
@@ -7,14 +7,14 @@ ghost use Rattle.acta_session.specs.Remarks.{bar_line, bars_text, beside, one_li
 use acta_words::Lines;
 use std::alloc::{AllocError, Allocator};
 
-/// What is said beside a line and below it, either of which may be empty.
+/// The words beside a line and below it, either of which may be empty.
 #[derive(Drop)]
 pub struct Remark<T: Drop> {
     pub beside: T,
     pub below: T,
 }
 
-// Adds the bytes but for their line feeds.
+// Adds the bytes without their line feeds.
 fn push_one_line<A: Allocator>(text: &mut Vec<u8, A>, words: &[u8]) -> Result<(), AllocError>
     ensures { OnOk result (text.new.items ≡ text.old.items ++ one_line words.now) }
 {
@@ -26,7 +26,7 @@ fn push_one_line<A: Allocator>(text: &mut Vec<u8, A>, words: &[u8]) -> Result<()
     Ok(())
 }
 
-// Adds what is said beside a line, after a gap.
+// Adds the words beside a line, after a gap.
 fn push_beside<A: Allocator>(
     text: &mut Vec<u8, A>,
     gap: &[u8],
@@ -41,7 +41,7 @@ fn push_beside<A: Allocator>(
     push_one_line(text, words)
 }
 
-// Adds a line behind a bar.
+// Adds a line after a bar.
 fn push_bar<A: Allocator>(text: &mut Vec<u8, A>, line: &[u8]) -> Result<(), AllocError>
     ensures { OnOk result (text.new.items ≡ text.old.items ++ bar_line line.now ++ 10 ∷ []) }
 {
@@ -51,7 +51,7 @@ fn push_bar<A: Allocator>(text: &mut Vec<u8, A>, line: &[u8]) -> Result<(), Allo
     Ok(())
 }
 
-/// Adds the lines of what is said below, each behind a bar. `Err` if memory runs out.
+/// Adds the lines below, each after a bar. Returns `Err` if memory runs out.
 pub(crate) fn push_bars<A: Allocator>(text: &mut Vec<u8, A>, below: &[u8]) -> Result<(), AllocError>
     ensures { OnOk result (text.new.items ≡ text.old.items ++ bars_text below.now) }
 {
@@ -65,7 +65,7 @@ pub(crate) fn push_bars<A: Allocator>(text: &mut Vec<u8, A>, below: &[u8]) -> Re
     Ok(())
 }
 
-/// A line with a remark beside it, after a gap, and what is said below. `Err` if memory runs out.
+/// A line with a remark beside it, after a gap, and the lines below it. Returns `Err` if memory runs out.
 pub(crate) fn remarked<A: Allocator>(
     mut line: Vec<u8, A>,
     gap: &[u8],

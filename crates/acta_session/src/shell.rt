@@ -19,7 +19,7 @@ use crate::moves::{explore_text, left_text, place_text, places_text, refused_tex
 use crate::remarks::{Remark, push_bars, remarked};
 use crate::typed::{Typed, typed_of};
 use crate::words::{Before, Words};
-use acta_debug::Debugger;
+use acta_debug::{Cursor, Debugger};
 use acta_machine::{Handle, Machine};
 use acta_script::{
     Diagnostic, LineFault, ProgramLine, ShellCommand, ShellFault, ShellLine, answer_line,
@@ -42,13 +42,12 @@ pub struct Reply<A: Handle> {
     pub is_over: bool,
 }
 
-/// A session: the events that were admitted so far, with those that were taken back and can be done again, and the machine
-/// after them; the answers to the events that were refused; and the lines of programs that were read since `explore`.
-/// Contracts see all but the words.
+/// A session: the admitted events, with those that were undone and can be redone, and the machine after them; the answers to
+/// the refused events; and the lines of programs that were read since `explore`. Contracts see all but the words.
 #[derive(Drop)]
 pub struct Shell<A: Handle, W: Drop> {
     alloc: A,
-    debugger: Debugger<A>,
+    cursor: Cursor<A>,
     refusals: Vec<Answer, A>,
     is_exploring: bool,
     programs: Vec<ProgramLine<A>, A>,
@@ -62,10 +61,10 @@ impl<A: Handle, W: Drop> std::marker::Model for Shell<A, W> {
 
     ghost Value = { ShellState A };
 
-    ghost view = { λ s. record { session = s.debugger; refusals = s.refusals.items; is_exploring = s.is_exploring; programs = s.programs.items } };
+    ghost view = { λ s. record { session = s.cursor.session; refusals = s.refusals.items; is_exploring = s.is_exploring; programs = s.programs.items } };
 }
 
-// What the machine would answer to an event. A copy takes it only if nothing refuses it.
+// The machine's answer to an event. The event is given to a copy only if the machine would not refuse it.
 #[tactic(auto, unfolding(acta_machine::specs::Table::answer_to))]
 fn answer_of<A: Handle>(machine: &Machine<A>, event: &Event<A>) -> Result<Answer, AllocError>
     ensures { IfOk result (λ answer. answer ≡ answer_to machine.now event.now) }
@@ -79,7 +78,7 @@ fn answer_of<A: Handle>(machine: &Machine<A>, event: &Event<A>) -> Result<Answer
     }
 }
 
-// What a copy of the machine answers to an event.
+// The answer of a copy of the machine to an event.
 fn answer_of_copy<A: Handle>(machine: &Machine<A>, event: &Event<A>) -> Result<Answer, AllocError>
     ensures { IfOk result (λ answer. answer ≡ answer_to machine.now event.now) }
 {
@@ -113,7 +112,7 @@ fn fault_text<A: Handle>(
     remarked(line, b", ", remark)
 }
 
-// A reply by which the session goes on.
+// A reply that does not end the session.
 fn going_on<A: Handle>(text: Vec<u8, A>) -> Reply<A>
     ensures text { result.text ≡ text }
     ensures over { result.is_over ≡ false }
@@ -145,14 +144,14 @@ fn refusal_at(refusals: &[Answer], number: usize) -> Option<Answer>
 }
 
 impl<A: Handle, W: Words<Event<A>, Machine<A>, Model<A>, ProgramLine<A>, Vec<u8, A>>> Shell<A, W> {
-    /// A session on the model, before any event, whose replies have these words.
+    /// A session on the model, before any event, with these words.
     pub fn new(alloc: A, model: Model<A>, words: W) -> Result<Shell<A, W>, AllocError>
         ensures { IfOk result (λ shell. shell ≡ begun model) }
     {
         match Debugger::new(alloc, model, Vec::new(alloc)) {
             Ok(debugger) => Ok(Shell {
                 alloc,
-                debugger,
+                cursor: Cursor::new(debugger),
                 refusals: Vec::new(alloc),
                 is_exploring: false,
                 programs: Vec::new(alloc),
@@ -173,18 +172,10 @@ impl<A: Handle, W: Words<Event<A>, Machine<A>, Model<A>, ProgramLine<A>, Vec<u8,
         self.is_exploring
     }
 
-    // The machine after the events so far.
-    fn machine(&self) -> &Machine<A>
-        ensures state { result.now ≡ state_of self.now.session }
-        ensures model { result.now.model ≡ self.now.session.model }
-    {
-        self.debugger.machine()
-    }
-
-    /// Answers a line. An event is taken, and its answer is the machine's; `can` and an event is answered as the event would be,
-    /// and changes nothing; `undo`, `redo` and `goto` move to another place, if there is one; after `explore` lines of programs
-    /// are read, up to an empty line, which is answered by how the programs can end; other commands and faulty lines change
-    /// nothing, and a line without a word has no reply. `Err` comes if memory runs out: the session is then at an end.
+    /// Answers a line. The machine takes an event and answers it. `can` and an event is answered as the event would be, and
+    /// changes nothing. `undo`, `redo` and `goto` move to another place, if it exists. After `explore` lines of programs are
+    /// read, up to an empty line, which is answered with how the programs can end. Other commands and faulty lines change
+    /// nothing, and a line without a word has no reply. Returns `Err` if memory runs out; the session is then over.
     #[tactic(auto, unfolding(crate::specs::Shells::after_line, crate::specs::Shells::quits, crate::specs::Replies::IsReply))]
     pub fn respond(&mut self, line: &[u8]) -> Result<Reply<A>, AllocError>
         ensures session { OnOk result (self.new ≡ after_line self.old line.now) }
@@ -204,7 +195,7 @@ impl<A: Handle, W: Words<Event<A>, Machine<A>, Model<A>, ProgramLine<A>, Vec<u8,
         ensures over { IfOk result (λ reply. reply.is_over ≡ quits_by (shell_line_of self.old.session.model line.now)) }
         ensures says { IfOk result (λ reply. Says W.says self.old (words_of line.now) (shell_line_of self.old.session.model line.now) reply.text) }
     {
-        match read_shell_line(self.alloc, self.debugger.machine().model(), line) {
+        match read_shell_line(self.alloc, self.cursor.model(), line) {
             Ok(parsed) => self.obey(parsed),
             Err(ShellFault::Wrong(found)) => self.refuse(line, found),
             Err(ShellFault::Memory) => Err(AllocError),
@@ -220,12 +211,11 @@ impl<A: Handle, W: Words<Event<A>, Machine<A>, Model<A>, ProgramLine<A>, Vec<u8,
         if !has_words(line) {
             return Ok(going_on(Vec::new(self.alloc)));
         }
-        let model = self.debugger.machine().model();
-        let remark = self.words.of_fault(model, line, found)?;
+        let remark = self.words.of_fault(self.cursor.model(), line, found)?;
         Ok(going_on(fault_text(self.alloc, found.fault, remark)?))
     }
 
-    // Answers a line that was read.
+    // Answers a parsed line.
     fn obey(&mut self, parsed: ShellLine<A>) -> Result<Reply<A>, AllocError>
         ensures session { OnOk result (self.new ≡ after_parsed self.old (Ok parsed)) }
         ensures over { IfOk result (λ reply. reply.is_over ≡ quits_by {A = A} (Ok parsed)) }
@@ -246,11 +236,12 @@ impl<A: Handle, W: Words<Event<A>, Machine<A>, Model<A>, ProgramLine<A>, Vec<u8,
         ensures session { OnOk result (self.new ≡ after_event self.old event) }
         ensures answer { IfOk result (λ text. IsRemarked (answer_line (answer_to (state_of self.old.session) event)) after_answer text.items) }
     {
-        let line = write_event(self.alloc, self.machine().model(), &event)?;
-        let before = Before::of(self.machine());
-        let answer = self.debugger.take(&event)?;
+        let line = write_event(self.alloc, self.cursor.model(), &event)?;
+        self.cursor.settle()?;
+        let before = Before::of(self.cursor.machine());
+        let answer = self.cursor.take(&event)?;
         self.note(answer)?;
-        let machine = self.debugger.machine();
+        let machine = self.cursor.machine();
         let remark = self.words.of_event(machine, before, event, line, answer)?;
         answer_text(self.alloc, &answer, remark)
     }
@@ -276,8 +267,10 @@ impl<A: Handle, W: Words<Event<A>, Machine<A>, Model<A>, ProgramLine<A>, Vec<u8,
         ensures same { self.new ≡ self.old }
         ensures answer { IfOk result (λ text. IsRemarked (answer_line (answer_to (state_of self.old.session) event.now)) after_answer text.items) }
     {
-        let answer = answer_of(self.machine(), event)?;
-        let remark = self.words.of_question(self.debugger.machine(), event)?;
+        self.cursor.settle()?;
+        let machine = self.cursor.machine();
+        let answer = answer_of(machine, event)?;
+        let remark = self.words.of_question(machine, event)?;
         answer_text(self.alloc, &answer, remark)
     }
 
@@ -286,8 +279,8 @@ impl<A: Handle, W: Words<Event<A>, Machine<A>, Model<A>, ProgramLine<A>, Vec<u8,
         ensures place { result ≡ (if can_move self.now.session command then Some (place_after self.now.session command) else None) }
         ensures within { IfSome result (λ place. place ≤ length self.now.session.history) }
     {
-        let at = self.debugger.at();
-        let last = self.debugger.last();
+        let at = self.cursor.at();
+        let last = self.cursor.last();
         match command {
             ShellCommand::Undo(n) => at.checked_sub(n),
             ShellCommand::Redo(n) if n <= last - at => Some(at + n),
@@ -301,7 +294,7 @@ impl<A: Handle, W: Words<Event<A>, Machine<A>, Model<A>, ProgramLine<A>, Vec<u8,
         requires { place ≤ length self.old.session.history }
         ensures ok { OnOk result (self.new ≡ record self.old { session = moved_to self.old.session place }) }
     {
-        match self.debugger.goto(place) {
+        match self.cursor.goto(place) {
             Ok(()) => Ok(()),
             Err(_) => Err(AllocError),
         }
@@ -311,8 +304,8 @@ impl<A: Handle, W: Words<Event<A>, Machine<A>, Model<A>, ProgramLine<A>, Vec<u8,
     fn no_move(&self, command: ShellCommand) -> Result<Vec<u8, A>, AllocError>
         ensures { IfOk result (λ text. text.items ≡ text_of (no_move_line self.now.session command ∷ [])) }
     {
-        let at = self.debugger.at();
-        let last = self.debugger.last();
+        let at = self.cursor.at();
+        let last = self.cursor.last();
         match command {
             ShellCommand::Undo(_) => left_text(self.alloc, at, b"taken back"),
             ShellCommand::Redo(_) => left_text(self.alloc, last - at, b"done again"),
@@ -335,29 +328,35 @@ impl<A: Handle, W: Words<Event<A>, Machine<A>, Model<A>, ProgramLine<A>, Vec<u8,
     }
 
     // The kept lines of the history.
-    fn history(&self) -> Result<Vec<u8, A>, AllocError>
-        ensures { IfOk result (λ text. SaysOf W.says self.now shell_command.History text) }
+    fn history(&mut self) -> Result<Vec<u8, A>, AllocError>
+        ensures same { self.new ≡ self.old }
+        ensures says { IfOk result (λ text. SaysOf W.says self.old shell_command.History text) }
     {
         let mut text = Vec::new(self.alloc);
-        push_kept_lines(self.alloc, self.machine(), &mut text)?;
+        self.cursor.settle()?;
+        push_kept_lines(self.alloc, self.cursor.machine(), &mut text)?;
         Ok(text)
     }
 
     // The event lines of the history.
-    fn events(&self) -> Result<Vec<u8, A>, AllocError>
-        ensures { IfOk result (λ text. SaysOf W.says self.now shell_command.Events text) }
+    fn events(&mut self) -> Result<Vec<u8, A>, AllocError>
+        ensures same { self.new ≡ self.old }
+        ensures says { IfOk result (λ text. SaysOf W.says self.old shell_command.Events text) }
     {
         let mut text = Vec::new(self.alloc);
-        push_event_lines(self.alloc, self.machine(), &mut text)?;
+        self.cursor.settle()?;
+        push_event_lines(self.alloc, self.cursor.machine(), &mut text)?;
         Ok(text)
     }
 
-    // The lines that say of the state what the command asks for; permits have their own.
-    fn lines_for(&self, command: ShellCommand) -> Result<Vec<u8, A>, AllocError>
-        ensures { IfOk result (λ text. text.items ≡ text_of (lines_for self.now.session command)) }
+    // The lines about the state for which the command asks, except permits.
+    fn lines_for(&mut self, command: ShellCommand) -> Result<Vec<u8, A>, AllocError>
+        ensures same { self.new ≡ self.old }
+        ensures says { IfOk result (λ text. text.items ≡ text_of (lines_for self.old.session command)) }
     {
         let mut text = Vec::new(self.alloc);
-        let machine = self.machine();
+        self.cursor.settle()?;
+        let machine = self.cursor.machine();
         match command {
             ShellCommand::State => push_state_lines(self.alloc, machine, &mut text)?,
             ShellCommand::Status(t) => push_status_line(machine, t, &mut text)?,
@@ -372,11 +371,13 @@ impl<A: Handle, W: Words<Event<A>, Machine<A>, Model<A>, ProgramLine<A>, Vec<u8,
     }
 
     // The lines of the permits.
-    fn permits(&self) -> Result<Vec<u8, A>, AllocError>
-        ensures { IfOk result (λ text. SaysOf W.says self.now shell_command.Permits text) }
+    fn permits(&mut self) -> Result<Vec<u8, A>, AllocError>
+        ensures same { self.new ≡ self.old }
+        ensures says { IfOk result (λ text. SaysOf W.says self.old shell_command.Permits text) }
     {
         let mut text = Vec::new(self.alloc);
-        push_permit_lines(self.machine(), &mut text)?;
+        self.cursor.settle()?;
+        push_permit_lines(self.cursor.machine(), &mut text)?;
         Ok(text)
     }
 
@@ -386,7 +387,8 @@ impl<A: Handle, W: Words<Event<A>, Machine<A>, Model<A>, ProgramLine<A>, Vec<u8,
         ensures says { IfOk result (λ text. AreRemarked (lines_for self.old.session command) text.items) }
     {
         let mut text = self.lines_for(command)?;
-        let below = self.words.of_state(self.debugger.machine(), command)?;
+        self.cursor.settle()?;
+        let below = self.words.of_state(self.cursor.machine(), command)?;
         push_bars(&mut text, below.as_slice())?;
         Ok(text)
     }
@@ -404,15 +406,16 @@ impl<A: Handle, W: Words<Event<A>, Machine<A>, Model<A>, ProgramLine<A>, Vec<u8,
         answer_text(self.alloc, &answer, remark)
     }
 
-    // The words of a command that has no lines.
+    // The reply to a command whose reply is words only.
     fn words_of(&mut self, command: ShellCommand) -> Result<Vec<u8, A>, AllocError>
         ensures same { self.new ≡ self.old }
         ensures says { IfOk result (λ text. W.says (state_of self.old.session) command text) }
     {
-        self.words.of_command(self.debugger.machine(), command)
+        self.cursor.settle()?;
+        self.words.of_command(self.cursor.machine(), command)
     }
 
-    // From now on lines of programs are read.
+    // Starts to read lines of programs.
     fn explore(&mut self) -> Result<Vec<u8, A>, AllocError>
         ensures session { self.new ≡ record self.old { is_exploring = true; programs = [] } }
         ensures says { IfOk result (λ text. SaysOf W.says self.old shell_command.Explore text) }
@@ -445,13 +448,13 @@ impl<A: Handle, W: Words<Event<A>, Machine<A>, Model<A>, ProgramLine<A>, Vec<u8,
         }
     }
 
-    // Answers a line where lines of programs are read.
+    // Answers a line while lines of programs are read.
     fn read_typed(&mut self, line: &[u8]) -> Result<Reply<A>, AllocError>
         ensures session { OnOk result (self.new ≡ after_typed self.old (typed_of self.old.session.model line.now)) }
         ensures over { IfOk result (λ reply. reply.is_over ≡ false) }
         ensures says { IfOk result (λ reply. SaysTyped W.says_ends self.old (typed_of self.old.session.model line.now) reply.text) }
     {
-        let typed = typed_of(self.alloc, self.debugger.machine().model(), line)?;
+        let typed = typed_of(self.alloc, self.cursor.model(), line)?;
         Ok(going_on(match typed {
             Typed::Comment => Vec::new(self.alloc),
             Typed::End => self.end_programs()?,
@@ -460,12 +463,13 @@ impl<A: Handle, W: Words<Event<A>, Machine<A>, Model<A>, ProgramLine<A>, Vec<u8,
         }))
     }
 
-    // How the programs can end. No line of them is read after that.
+    // The reply with how the programs can end, after which no line of them is read.
     fn end_programs(&mut self) -> Result<Vec<u8, A>, AllocError>
         ensures session { OnOk result (self.new ≡ record self.old { is_exploring = false; programs = [] }) }
         ensures says { IfOk result (λ text. W.says_ends (state_of self.old.session) self.old.programs text) }
     {
-        let machine = self.debugger.machine();
+        self.cursor.settle()?;
+        let machine = self.cursor.machine();
         let programs = self.programs.as_slice();
         let text = self
             .words
@@ -491,8 +495,9 @@ impl<A: Handle, W: Words<Event<A>, Machine<A>, Model<A>, ProgramLine<A>, Vec<u8,
         ensures same { self.new ≡ self.old }
         ensures says { IfOk result (λ text. IsRemarked (fault_name fault) after_name text.items) }
     {
-        let model = self.debugger.machine().model();
-        let remark = self.words.of_program_fault(model, line, fault)?;
+        let remark = self
+            .words
+            .of_program_fault(self.cursor.model(), line, fault)?;
         fault_text(self.alloc, fault, remark)
     }
 }

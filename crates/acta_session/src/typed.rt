@@ -1,4 +1,4 @@
-//! A line that is typed where lines of programs are read.
+//! A line that is typed while lines of programs are read.
 
 ghost use Rattle.std.specs.Prelude.{◌≡◌, IfOk};
 ghost use Rattle.std.specs.List.{list_any};
@@ -11,10 +11,10 @@ use acta_table::Model;
 use acta_words::has_words;
 use std::alloc::{AllocError, Allocator};
 
-/// What a line is where lines of programs are read.
+/// A line that is typed while lines of programs are read.
 #[derive(Drop)]
 pub enum Typed<A: Allocator> {
-    /// A comment alone.
+    /// A line with only a comment.
     Comment,
     /// The empty line that ends the programs.
     End,
@@ -31,7 +31,7 @@ fn has_comment(line: &[u8]) -> bool
     line.iter().any(|byte| *byte == b'#')
 }
 
-// What a line with a word is.
+// Parses a line with a word.
 fn read_typed<A: Allocator + Copy>(
     alloc: A,
     model: &Model<A>,
@@ -46,7 +46,7 @@ fn read_typed<A: Allocator + Copy>(
     }
 }
 
-/// What the line is. `Err` if memory runs out.
+/// Parses the line. Returns `Err` if memory runs out.
 pub(crate) fn typed_of<A: Allocator + Copy>(
     alloc: A,
     model: &Model<A>,

@@ -1,4 +1,4 @@
-//! The words of a session's replies.
+//! The words that a caller adds to a session's replies.
 
 ghost use Rattle.std.specs.Prelude.{◌≡◌, List, length, IfOk};
 ghost use Rattle.acta_machine.specs.Table.{edges_in, operations_in};
@@ -10,7 +10,7 @@ use acta_script::{Diagnostic, LineFault, ShellCommand};
 use acta_table::Answer;
 use std::alloc::AllocError;
 
-/// How many operations and edges there were before an event.
+/// The numbers of operations and edges before an event.
 #[derive(Clone, Copy, PartialEq, Eq, Debug)]
 pub struct Before {
     pub operations: usize,
@@ -18,7 +18,7 @@ pub struct Before {
 }
 
 impl Before {
-    /// How many a machine has.
+    /// The numbers of operations and edges of a machine.
     pub fn of<A: Handle>(machine: &Machine<A>) -> Before
         ensures operations { result.operations ≡ length (operations_in machine.now) }
         ensures edges { result.edges ≡ length (edges_in machine.now) }
@@ -30,15 +30,16 @@ impl Before {
     }
 }
 
-/// What replies say beside the answers, the places and the lines, where E is an event, M a machine, D a model, P a line of
-/// programs and T a text. It may keep what it needs for later replies. Each answers `Err` if memory runs out.
+/// The words that replies have beside answers, places and lines. E is the type of events, M of machines, D of models, P of
+/// lines of programs and T of texts. It may keep what it needs for later replies. Each method returns `Err` if memory runs
+/// out.
 pub trait Words<E, M, D, P, T: Drop>: Drop {
-    // What a text says of a command on a machine, and of programs that go on from there.
+    // The meaning of a text about a command on a machine, and about programs that continue from there.
     ghost says: { M → a_command → T → Type 0 };
 
     ghost says_ends: { M → List P → T → Type 0 };
 
-    /// The remark on an event: the machine has taken it and answered this, and the event has this line.
+    /// The remark on an event with this line, which the machine has taken and answered.
     fn of_event(
         &mut self,
         machine: &M,
@@ -70,14 +71,14 @@ pub trait Words<E, M, D, P, T: Drop>: Drop {
     /// The remark on the refused event of this number, from 1.
     fn of_refusal(&mut self, number: usize) -> Result<Remark<T>, AllocError>;
 
-    /// What stands below the lines of a command that asks for the state.
+    /// The words below the lines of a command that asks for the state.
     fn of_state(&mut self, machine: &M, command: ShellCommand) -> Result<T, AllocError>;
 
-    /// The reply to a command that has no lines: `draw`, `next` or `help`.
+    /// The reply to a command without lines of its own: `draw`, `next` or `help`.
     fn of_command(&mut self, machine: &M, command: ShellCommand) -> Result<T, AllocError>
         ensures { IfOk result (says machine.now command) };
 
-    /// The reply to programs that go on from the machine, with their lines as they were typed.
+    /// The reply to programs that continue from the machine; `typed` has their lines as they were typed.
     fn of_programs(&mut self, machine: &M, lines: &[P], typed: &[u8]) -> Result<T, AllocError>
         ensures { IfOk result (says_ends machine.now lines.now) };
 }

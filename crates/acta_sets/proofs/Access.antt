@@ -1,4 +1,4 @@
--- What each transaction holds, after an operation is added, and after some end or go to another.
+-- The lists of what each transaction holds, after an operation is added, ended or transferred.
 --     length-numbers_by            how many numbers there are
 --     each_changed    what is done to each of some numbers, one after another, is done to all that pass
 --     joined_is                    two lists put together
@@ -32,7 +32,7 @@ numbers_by-same p q n (i ∷ items) same =
     ap (λ b. if b then n ∷ numbers_by p (n + 1) items else numbers_by p (n + 1) items) (same n i)
     ∙ ap (λ l. if q n i then n ∷ l else l) (numbers_by-same p q (n + 1) items same)
 
--- there are no more than operations
+-- there are no more numbers than operations
 fewer_step : (b : Bool) (n k : ℕ) (ns : List ℕ) → length ns ≤ k → length (if b then n ∷ ns else ns) ≤ suc k
 fewer_step true n k ns le = omega (arith, le)
 fewer_step false n k ns le = omega (arith, le)
@@ -41,7 +41,7 @@ pub length-numbers_by : (test : ℕ → HeldOp → Bool) (n : ℕ) (items : List
 length-numbers_by test n [] = omega arith
 length-numbers_by test n (i ∷ items) = fewer_step (test n i) n (length items) (numbers_by test (n + 1) items) (length-numbers_by test (n + 1) items)
 
--- what is done to one of a number below all changes none
+-- changing an item whose number is below all others changes none of them
 changed_below : (f : HeldOp → HeldOp) (o n : ℕ) (items : List HeldOp) → o < n → changed_from (λ k _. k == o) f n items ≡ items
 changed_below f o n [] lt = refl
 changed_below f o n (i ∷ items) lt =
@@ -52,7 +52,7 @@ changed_below f o n (i ∷ items) lt =
 abbrev each_from : (HeldOp → HeldOp) → ℕ → List HeldOp → List ℕ → List HeldOp
 each_from f n items ops = fold (λ is o. changed_from (λ k _. k == o) f n is) items ops
 
--- those that come later leave the first as it is
+-- later changes leave the first item unchanged
 past_step : (test : ℕ → HeldOp → Bool) (f : HeldOp → HeldOp) (n m : ℕ) (i : HeldOp) (items others : List HeldOp) (b : Bool) → n < m
     → ((is : List HeldOp) → each_from f n (i ∷ is) (numbers_by test (m + 1) others) ≡ i ∷ each_from f (n + 1) is (numbers_by test (m + 1) others))
     → each_from f n (i ∷ items) (if b then m ∷ numbers_by test (m + 1) others else numbers_by test (m + 1) others)
@@ -68,7 +68,7 @@ each_past test f n m i items [] lt = refl
 each_past test f n m i items (j ∷ others) lt =
     past_step test f n m i items others (test m j) lt (λ is. each_past test f n (m + 1) i is others (omega (arith, lt)))
 
--- what is done to each of the numbers of those that pass is done to those that pass
+-- changing each of the items that pass the test is changing those that pass
 changed_step : (test : ℕ → HeldOp → Bool) (f : HeldOp → HeldOp) (n : ℕ) (i : HeldOp) (items : List HeldOp) (b : Bool)
     → each_from f (n + 1) items (numbers_by test (n + 1) items) ≡ changed_from test f (n + 1) items
     → each_from f n (i ∷ items) (if b then n ∷ numbers_by test (n + 1) items else numbers_by test (n + 1) items)
@@ -87,7 +87,7 @@ pub each_changed : (test : ℕ → HeldOp → Bool) (f : HeldOp → HeldOp) (n :
 each_changed test f n [] = refl
 each_changed test f n (i ∷ items) = changed_step test f n i items (test n i) (each_changed test f (n + 1) items)
 
--- two lists put together
+-- two lists joined
 merge_low : (q : ℕ → HeldOp → Bool) (k j : ℕ) (ns : List ℕ) (items : List HeldOp) → k < j → merge (k ∷ ns) (numbers_by q j items) ≡ k ∷ merge ns (numbers_by q j items)
 merge_low q k j ns [] lt = refl
 merge_low q k j ns (i ∷ items) lt = low_step (q j i) (merge_low q k (j + 1) ns items (omega arith))
@@ -125,7 +125,7 @@ merged_is p q n (i ∷ items) apart =
     merged_step n (p n i) (q n i) (numbers_by p (n + 1) items) (numbers_by q (n + 1) items) (numbers_by (λ k i. p k i || q k i) (n + 1) items) (apart n i)
     (merged_is p q (n + 1) items apart) (merge_low q n (n + 1) (numbers_by p (n + 1) items) items (omega arith)) (merge_high p n (n + 1) (numbers_by q (n + 1) items) items (omega arith))
 
--- where the last of one list is below the first of the other, they may be put one behind the other
+-- if the last of one list is below the first of the other, they may be concatenated
 lower_step : (k n : ℕ) (b : Bool) (ns : List ℕ) → k ≤ n → (last_below ns k ≡ true → ns ≡ []) → last_below (if b then n ∷ ns else ns) k ≡ true → (if b then n ∷ ns else ns) ≡ []
 lower_step k n true [] le later is = let off : nat_lt n k ≡ false = grind (arith, nat_tests, le) in cc
 lower_step k n true (m ∷ ns) le later is = let none : m ∷ ns ≡ [] = later is in cc
@@ -172,7 +172,7 @@ joined_is p q n items apart =
     joined_step (is_below (numbers_by p n items) (numbers_by q n items)) (numbers_by p n items) (numbers_by q n items) (numbers_by (λ k i. p k i || q k i) n items)
     (appended_is p q n items apart) (merged_is p q n items apart)
 
--- one written in its place
+-- one item is replaced
 pub set-changed : (f : HeldOp → HeldOp) (o n k : ℕ) (items : List HeldOp) (d : HeldOp) → o ≡ n + k → k < length items
     → set items k (f (get_or items k d)) ≡ changed_from (λ m _. m == o) f n items
 set-changed f o n k [] d at lt = refl
@@ -192,7 +192,7 @@ changed_none f o n (i ∷ items) (inr le) =
     ap (λ l. i ∷ l) (changed_none f o (n + 1) items (inr (omega (arith, le))))
     ∙ ap (λ b. (if b then f i else i) ∷ changed_from (λ m _. m == o) f (n + 1) items) (sym off)
 
--- each transaction's numbers, after one more operation
+-- each transaction's numbers after one more operation
 pub numbers_from-append : (test : HeldOp → Bool) (n : ℕ) (items : List HeldOp) (i : HeldOp)
     → numbers_from test n (items ++ i ∷ []) ≡ numbers_from test n items ++ (if test i then (n + length items) ∷ [] else [])
 numbers_from-append test n [] i = grind (arith, common_steps)
@@ -211,7 +211,7 @@ AreHeld-added items held held' i n long_by is opened after t =
     let now = after t in
     grind (arith, common_steps, nat_tests, more, here, there, now)
 
--- where all that t holds ends
+-- all that t holds ends
 access_ended : (t u : ℕ) (fate : Fate) (n : ℕ) (items : List HeldOp) → is_open fate ≡ false
     → numbers_from (is_held u) n (map (ended_op t fate) items) ≡ (if u == t then [] else numbers_from (is_held u) n items)
 access_ended t u fate n [] closed = grind (arith, common_steps)
@@ -241,7 +241,7 @@ each-ended t fate items ops is =
     ∙ each_changed (λ _ i. is_held t i) (ended_op t fate) 1 items
     ∙ changed-ended t fate 1 items
 
--- where u gets those that pass, all of which t holds
+-- u gets the operations that pass the test, all of which t holds
 changed-numbers : (q : HeldOp → Bool) (p : ℕ → HeldOp → Bool) (f : HeldOp → HeldOp) (n : ℕ) (items : List HeldOp)
     → numbers_from q n (changed_from p f n items) ≡ numbers_by (λ k i. q (if p k i then f i else i)) n items
 changed-numbers q p f n [] = refl
@@ -262,7 +262,7 @@ kept_by : (t u : TxnId) (v : ℕ) (b : Bool) (i : HeldOp) → (v ≡ t.0 → ⊥
 kept_by t u v true i apart apart' from = let was = from refl in let off : (u.0 == v) ≡ false = ne_eqb u.0 v (λ e. apart' (sym e)) in grind (arith, common_steps, nat_tests, was, off, apart)
 kept_by t u v false i apart apart' from = refl
 
--- where u gets given, which t holds
+-- u gets `given`, which t holds
 abbrev pub AllHeld : (ℕ → HeldOp → Bool) → ℕ → Type 0
 AllHeld p t = (k : ℕ) (i : HeldOp) → p k i ≡ true → is_held t i ≡ true
 
@@ -309,7 +309,7 @@ AreHeld-given items held held' t u p given left is apart from given_is left_is a
     (cases_eq v u.0))
     (cases_eq v t.0)
 
--- a list is one where each passes
+-- filtering by a test that every item passes changes nothing
 held_if : (b c : Bool) (x i : HeldOp) → (b ≡ true → c ≡ true) → (if b then (if c then x else i) else i) ≡ (if b then x else i)
 held_if true true x i from = refl
 held_if true false x i from = let no : false ≡ true = from refl in cc
@@ -350,13 +350,13 @@ held_again t u false i same from = refl
 holder_is : (t : ℕ) (i : HeldOp) → is_held t i ≡ true → i.holder.0 ≡ t
 holder_is t i is = grind (arith, common_steps, nat_tests, is)
 
--- a transaction that gets its own changes nothing
+-- a transfer from a transaction to itself changes nothing
 pub transferred_same : (t u : TxnId) (items : List HeldOp) → t.0 ≡ u.0 → items ≡ transferred t.0 u items
 transferred_same t u [] same = refl
 transferred_same t u (i ∷ items) same =
     ap (λ (j : HeldOp). j ∷ items) (held_again t u (is_held t.0 i) i same (holder_is t.0 i)) ∙ ap (λ l. transferred_op t.0 u i ∷ l) (transferred_same t u items same)
 
--- what is named among a list, and what is not
+-- the named items of a list, and the others
 filter_step : (test : ℕ → Bool) (b c : Bool) (n : ℕ) (ns ms : List ℕ) → c ≡ test n → filter test ns ≡ ms → filter test (if b then n ∷ ns else ns) ≡ (if b && c then n ∷ ms else ms)
 filter_step test true c n ns ms at later = ap (λ d. if d then n ∷ filter test ns else filter test ns) (sym at) ∙ ap (λ l. if c then n ∷ l else l) later
 filter_step test false c n ns ms at later = later
@@ -365,7 +365,7 @@ pub filter-numbers : (test : ℕ → Bool) (q : HeldOp → Bool) (n : ℕ) (item
 filter-numbers test q n [] = refl
 filter-numbers test q n (i ∷ items) = filter_step test (q i) (test n) n (numbers_from q (n + 1) items) (numbers_by (λ k i. q i && test k) (n + 1) items) refl (filter-numbers test q (n + 1) items)
 
--- where all that are named are held, those that are held and named are those that are named
+-- if all named operations are held, the held ones among the named are the named ones
 not_both : (b c : Bool) → (b && not c) ≡ (b && not (b && c))
 not_both true c = refl
 not_both false c = refl
@@ -410,16 +410,16 @@ changed-moved t ops u items all =
     changed-moved_from t ops u 1 items (λ j named. let one : 1 + j ≡ suc j = omega arith in
     subst (λ m. option_map_or (is_held t) (operation_at items m) false ≡ true) one (named_holds (λ k. option_map_or (is_held t) (operation_at items k) false) ops (1 + j) all named))
 
--- those of some that t holds
+-- the operations of a list that t holds
 pub changed-transferred_of : (t : ℕ) (ops : List OpNo) (u : TxnId) (n : ℕ) (items : List HeldOp) → changed_from (λ k i. is_held t i && is_named ops k) (held_by u) n items ≡ transferred_from n t ops u items
 changed-transferred_of t ops u n [] = refl
 changed-transferred_of t ops u n (i ∷ items) = ap (λ l. (if is_held t i && is_named ops n then record i { holder = u } else i) ∷ l) (changed-transferred_of t ops u (n + 1) items)
 
--- where t holds them all, these are moved
+-- if t holds all of them, they are moved
 pub transferred_of-moved : (t : ℕ) (ops : List OpNo) (u : TxnId) (items : List HeldOp) → are_held t ops items ≡ true → transferred_of t ops u items ≡ moved ops u items
 transferred_of-moved t ops u items all = sym (changed-transferred_of t ops u 1 items) ∙ changed-moved t ops u items all
 
--- a transaction that gets its own changes nothing
+-- a transfer from a transaction to itself changes nothing
 transferred_from_same : (t u : TxnId) (ops : List OpNo) (n : ℕ) (items : List HeldOp) → t.0 ≡ u.0 → items ≡ transferred_from n t.0 ops u items
 transferred_from_same t u ops n [] same = refl
 transferred_from_same t u ops n (i ∷ items) same =
@@ -430,7 +430,7 @@ transferred_from_same t u ops n (i ∷ items) same =
 pub transferred_of-same : (t u : TxnId) (ops : List OpNo) (items : List HeldOp) → t.0 ≡ u.0 → items ≡ transferred_of t.0 ops u items
 transferred_of-same t u ops items same = transferred_from_same t u ops 1 items same
 
--- the lists after one is joined by given, and another is changed
+-- the lists after one is joined with `given` and another is changed
 lists_after : (held shared after : List (SmallVec ℕ)) (t u : ℕ) (joint : List ℕ) (f : List ℕ → List ℕ) → (t ≡ u → ⊥)
     → ((v : ℕ) → list_at shared v ≡ (if v == u then joint else list_at held v)) → ((v : ℕ) → list_at after v ≡ (if v == t then f (list_at shared t) else list_at shared v))
     → (v : ℕ) → list_at after v ≡ (if v == t then f (list_at held t) else if v == u then joint else list_at held v)

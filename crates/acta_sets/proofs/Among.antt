@@ -1,4 +1,4 @@
--- Those who hold something are among the holders, and who of them stands against an operation.
+-- Every transaction that holds operations is among the holders, and which holders conflict with an operation.
 use Rattle.std.proofs.Common.{◌≡◌, ◌<◌, ℕ, ◌+◌, Bool, true, false, not, if◌then◌else◌, ◌&&◌, ◌||◌, ◌==◌, cond, List, [], ◌∷◌, map, filter, fold, refl, ap, sym, ◌∙◌, arith, Ordering, Less, Equal, Greater}
 use Rattle.std.proofs.Common.{⊎_elim}
 use Rattle.std.specs.List.{list_any, AllByRecursion}
@@ -25,7 +25,7 @@ or_right : (a b : Bool) → b ≡ true → (a || b) ≡ true
 or_right true b e = refl
 or_right false b e = e
 
--- where one list alone is changed, whose transaction comes among them
+-- only one list is changed, and its transaction is added
 pub AreAmong-more : (held after : List (SmallVec ℕ)) (keys more : List ℕ) (at : ℕ) (list : List ℕ) → more ≡ insert_key nat_cmp keys at
     → ((v : ℕ) → list_at after v ≡ (if v == at then list else list_at held v)) → AreAmong held keys → AreAmong after more
 AreAmong-more held after keys more at list is change among v any =
@@ -35,14 +35,14 @@ AreAmong-more held after keys more at list is change among v any =
     (λ (other : at ≡ v → ⊥). or_right (at == v) (has keys v) (among v (sym (ap has_any (change v ∙ ap (λ b. if b then list else list_at held v) (ne_eqb v at (λ e. other (sym e))))) ∙ any)))
     (cases_eq at v)
 
--- where none is changed
+-- no list is changed
 pub AreAmong-same : (held after : List (SmallVec ℕ)) (keys : List ℕ) → ((v : ℕ) → list_at after v ≡ list_at held v) → AreAmong held keys → AreAmong after keys
 AreAmong-same held after keys same among v any = among v (sym (ap has_any (same v)) ∙ any)
 
 pub AreAmong-wider : (held : List (SmallVec ℕ)) (keys more : List ℕ) (at : ℕ) → more ≡ insert_key nat_cmp keys at → AreAmong held keys → AreAmong held more
 AreAmong-wider held keys more at is among v any = ap (λ ks. has ks v) is ∙ any-inserted (λ k. k == v) keys at ∙ or_right (at == v) (has keys v) (among v any)
 
--- where one is taken away, the others are still there
+-- one holder is removed, and the others stay
 kept_step : (q b c : Bool) (x y : Bool) → (q ≡ true → b ≡ false) → x ≡ y → (if q then y else b || x) ≡ (b || y)
 kept_step true true c x y off same = let no : true ≡ false = off refl in cc
 kept_step true false c x y off same = refl
@@ -71,7 +71,7 @@ AreAmong-cleared held after keys less at is change among v any =
     ∙ among v (sym (ap has_any (change v ∙ ap (λ b. if b then [] else list_at held v) (ne_eqb v at other))) ∙ any))
     (cases_eq v at)
 
--- where some are left out of one list
+-- items are removed from one list
 fewer_any : (ops : List OpNo) (ns : List ℕ) → has_any (without ops ns) ≡ true → has_any ns ≡ true
 fewer_any ops [] any = any
 fewer_any ops (n ∷ ns) any = refl
@@ -87,7 +87,7 @@ AreAmong-fewer held after keys at ops change among v any =
     (λ (other : v ≡ at → ⊥). among v (sym (ap has_any (change v ∙ ap (λ b. if b then without ops (list_at held at) else list_at held v) (ne_eqb v at other))) ∙ any))
     (cases_eq v at)
 
--- who holds something against an operation is among them
+-- the holder of a conflicting operation is among the holders
 any_numbered : (test : HeldOp → Bool) (n : ℕ) (items : List HeldOp) → list_any test items ≡ true → has_any (numbers_from test n items) ≡ true
 any_numbered test n [] e = e
 any_numbered test n (i ∷ items) e = of (test i) e (any_numbered test (n + 1) items)
@@ -117,7 +117,7 @@ conflicting_holder_there : (t : ℕ) (exempt : List ℕ) (ob : ℕ) (op : Op) (i
 conflicting_holder_there t exempt ob op items held keys u is among e =
     among u (ap has_any (is u) ∙ any_numbered (is_held u) 1 items (any_held u ob op items (second (not (u == t) && not (list_any (λ k. k == u) exempt)) (list_any (is_held_against u ob op) items) e)))
 
--- those of them who are against it
+-- the holders that conflict with it
 passing_step : (b c d : Bool) (x : Bool) → (b ≡ true → c ≡ d) → ((b && c) || (x && d)) ≡ ((b || x) && d)
 passing_step true c true x same = ap (λ z. z || (x && true)) (same refl)
 passing_step true c false true same = ap (λ z. z || false) (same refl)
@@ -130,7 +130,7 @@ passing p q (k ∷ keys) =
     ap (λ z. ((k == q) && p k) || z) (passing p q keys)
     ∙ passing_step (k == q) (p k) (p q) (has keys q) (λ e. ap p (let here : k ≡ q = grind (arith, nat_tests, e) in here))
 
--- those that are against it, of one holder
+-- the conflicting operations of one holder
 theirs_step : (b : Bool) (f s s' z z' o c : Bool) → (b ≡ true → s ≡ s') → (b ≡ true → z ≡ z') → (b && (f && not s && not z && o && c)) ≡ ((not s' && not z') && ((b && f) && o && c))
 theirs_step false f s true z z' o c e g = refl
 theirs_step false f s false z true o c e g = refl
@@ -168,7 +168,7 @@ there_step a true from = ap (λ c. c && true) (from refl)
 there_step true false from = refl
 there_step false false from = refl
 
--- sets of numbers are in order
+-- sets of numbers are ascending
 less_is : (u j : ℕ) → nat_cmp u j ≡ Less → u < j
 less_is u j e = grind (arith, nat_tests, e)
 
@@ -212,7 +212,7 @@ none_sorted = tt
 sorted : (ns : List ℕ) → IsStrictlySortedBy nat_cmp (ascending ns)
 sorted ns = sorted_all [] ns none_sorted
 
--- those of the holders who are against it are those who hold what is against it
+-- the conflicting holders are the holders of conflicting operations
 pub conflicting_holders-are : (t : ℕ) (exempt : List ℕ) (ob : ℕ) (op : Op) (items : List HeldOp) (held : List (SmallVec ℕ)) (keys : List ℕ) → AreHeld items held → AreAmong held keys
     → ascending (map (λ k. k) (filter (is_conflicting_holder t exempt ob op items) keys)) ≡ holders_against t exempt ob op items
 conflicting_holders-are t exempt ob op items held keys is among =
@@ -227,7 +227,7 @@ conflicting_holders-are t exempt ob op items held keys is among =
     p : ℕ → Bool
     p = is_conflicting_holder t exempt ob op items
 
--- where none is against it, nobody holds one
+-- if no operation conflicts, there is no conflicting holder
 none_filtered : (test : HeldOp → Bool) (items : List HeldOp) → list_any test items ≡ false → [] ≡ filter test items
 none_filtered test [] none = refl
 none_filtered test (i ∷ items) none = of (test i) none (none_filtered test items)

@@ -1,4 +1,4 @@
--- Sets of grants, read as tests.
+-- Sets of grants as predicates.
 use Rattle.std.specs.Prelude.{◌≡◌, ◌<◌, ℕ, zero, suc, Bool, true, false, not, ◌&&◌, ◌||◌, ◌==◌, nat_le, List, [], ◌∷◌, ◌++◌, length, get_or, set, filter, cond, if◌then◌else◌}
 use Rattle.std.proofs.Common.{arith, refl, sym, ap, ◌∙◌, Ordering, Less, Equal, Greater}
 use Rattle.std.proofs.lemmas.Grind.{common_steps}
@@ -37,7 +37,7 @@ any-at q (g ∷ grants) = λ i. at-grant q g i || any-at q grants i
 is_grant-back : (g : Grant) (object partner : ℕ) → is_grant g.object.0 g.partner.0 (record { object = record { 0 = object }; partner = record { 0 = partner } }) ≡ is_grant object partner g
 is_grant-back g object partner = λ i. nat_eq_equiv.symm object g.object.0 i && nat_eq_equiv.symm partner g.partner.0 i
 
--- after one grant is put in or taken away
+-- after a grant is inserted or removed
 pub has_grant-updated : (s n : BTreeSet Grant) (k : Grant) (b : Bool) → ((q : Grant) → contains grant_cmp n q ≡ cond (is_at (grant_cmp k) q) b (contains grant_cmp s q))
     → (object partner : ℕ) → has_grant n.keys object partner ≡ cond (is_grant object partner k) b (has_grant s.keys object partner)
 has_grant-updated s n k b updates object partner =
@@ -58,14 +58,14 @@ cond-false true false = refl
 cond-false false true = refl
 cond-false false false = refl
 
--- an empty set at the end shows nowhere
+-- an empty set at the end makes no difference
 pub grants_at-more : (table : List (BTreeSet Grant)) (s : BTreeSet Grant) (v : ℕ) → s.keys ≡ [] → grants_at (table ++ s ∷ []) v ≡ grants_at table v
 grants_at-more [] s zero e = e
 grants_at-more [] s (suc v) e = refl
 grants_at-more (x ∷ table) s zero e = refl
 grants_at-more (x ∷ table) s (suc v) e = grants_at-more table s v e
 
--- after one set is written
+-- after one set is replaced
 pub grants_at-set : (table : List (BTreeSet Grant)) (at : ℕ) (s : BTreeSet Grant) (v : ℕ) → at < length table → grants_at (set table at s) v ≡ (if at == v then s.keys else grants_at table v)
 grants_at-set table at s v within =
     let long = length-map table (λ t. t.keys) in
@@ -75,7 +75,7 @@ grants_at-set table at s v within =
 pub grants_at-own : (table : List (BTreeSet Grant)) (at : ℕ) (s : BTreeSet Grant) → at < length table → s ≡ get_or table at s → grants_at table at ≡ s.keys
 grants_at-own table at s within is = get_or-map (λ t. t.keys) table at s [] within ∙ ap (λ t. t.keys) (sym is)
 
--- where one set is written: what a change does to its grants it does to those of the place
+-- replacing one set changes only the grants at its place
 pub is_granted-set : (table : List (BTreeSet Grant)) (at : ℕ) (old s : BTreeSet Grant) (change : Bool → Bool → Bool) → at < length table → old ≡ get_or table at old → (v object partner : ℕ) (c : Bool)
     → ((b : Bool) → change false b ≡ b) → has_grant s.keys object partner ≡ change c (has_grant old.keys object partner)
     → is_granted (set table at s) v object partner ≡ change ((at == v) && c) (is_granted table v object partner)
@@ -100,7 +100,7 @@ pub and-false : (b : Bool) → (b && false) ≡ false
 and-false true = refl
 and-false false = refl
 
--- the list that a loop has gone over
+-- the list that a loop has processed
 any-append : (test : Grant → Bool) (gs : List Grant) (g : Grant) → list_any test (gs ++ g ∷ []) ≡ (list_any test gs || test g)
 any-append test [] g = or-false (test g)
 any-append test (k ∷ gs) g = ap (λ b. test k || b) (any-append test gs g) ∙ or-both (test k) (list_any test gs) (test g)
@@ -118,7 +118,7 @@ out_more true false b true = refl
 out_more true false b false = refl
 out_more false p b m = refl
 
--- one more of the grants whose counterparts are taken away
+-- one more of the grants whose counterparts are removed
 pub has_grant-more : (a : Bool) (t object partner v : ℕ) (gs : List Grant) (g : Grant)
     → ((a && not ((t == partner) && has_grant gs object v)) && not ((g.partner.0 == v) && ((g.object.0 == object) && (t == partner))))
     ≡ (a && not ((t == partner) && has_grant (gs ++ g ∷ []) object v))
@@ -133,7 +133,7 @@ has_grant-more a t object partner v gs g =
     turned false true z = refl
     turned false false z = refl
 
--- those on an object, found by the order
+-- the grants on an object, found by the order
 between_if : (o p q : Ordering) → (is_le (ordering_then o p) && not (is_lt (ordering_then o q))) ≡ (is_eq o && (is_le p && not (is_lt q)))
 between_if Less p q = refl
 between_if Equal p q = refl

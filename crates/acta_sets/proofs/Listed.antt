@@ -1,4 +1,4 @@
--- ModeLists in a map.
+-- The mode lists in a map.
 use Rattle.std.proofs.Common.{◌≡◌, ℕ, ◌+◌, Bool, true, false, cond, if◌then◌else◌, List, [], ◌∷◌, ◌++◌, Option, Some, None, is_some, zero, suc, not, length, take, drop, refl, ap, sym, subst, ◌∙◌, arith}
 use Rattle.std.specs.Prelude.{find}
 use Rattle.std.specs.Option.{IsSomeAnd, MatchOption}
@@ -26,31 +26,31 @@ use Rattle.std.specs.Option.{option_map_or}
 use Rattle.acta_sets.specs.contracts.mode.ModeKeyPartialEq.TheImpl.{eq-value}
 use Rattle.acta_sets.specs.declared.mode.ModeKey.{ModeKey}
 use Rattle.acta_sets.specs.declared.listing.ModeList.{ModeList}
-use Rattle.acta_sets.specs.inside.Modes.{same_tag}
+use Rattle.acta_sets.specs.inside.Modes.{same_key}
 use Rattle.acta_sets.specs.inside.Listing.{numbers_in, front_in, is_ended_at, HaveEnded, FrontsHold, AreListed, belongs, passes_at}
-use Rattle.acta_sets.proofs.Keys.{get-updated, got, tag_is}
+use Rattle.acta_sets.proofs.Keys.{get-updated, got, key_is}
 
--- what is read of the value at a mode key, after another is put at one
+-- a property of the value at a mode key, after another value is inserted
 put_step : {X Y : Type 0} (f : X → Y) (d : Y) (b : Bool) (w : X) (o : Option X) → option_map_or f (if b then Some w else o) d ≡ (if b then f w else option_map_or f o d)
 put_step f d true w o = refl
 put_step f d false w o = refl
 
 pub read-put : {X Y S : Type 0} (f : X → Y) (d : Y) (m n : HashMap ModeKey X S) (k : ModeKey) (w : X) → hash.Updates (eq-value).it m n k (Some w) → (q : ModeKey)
-    → option_map_or f (hash.get same_tag n q) d ≡ (if same_tag k q then f w else option_map_or f (hash.get same_tag m q) d)
-read-put f d m n k w is q = ap (λ o. option_map_or f o d) (get-updated m n k (Some w) is q) ∙ put_step f d (same_tag k q) w (hash.get same_tag m q)
+    → option_map_or f (hash.get same_key n q) d ≡ (if same_key k q then f w else option_map_or f (hash.get same_key m q) d)
+read-put f d m n k w is q = ap (λ o. option_map_or f o d) (get-updated m n k (Some w) is q) ∙ put_step f d (same_key k q) w (hash.get same_key m q)
 
 same_step : {Y : Type 0} (b : Bool) (x y : Y) → (b ≡ true → x ≡ y) → (if b then x else y) ≡ y
 same_step true x y e = e refl
 same_step false x y e = refl
 
--- where the same is read of it, nothing shows
-pub read-same : {X Y S : Type 0} (f : X → Y) (d : Y) (m n : HashMap ModeKey X S) (k : ModeKey) (w : X) → hash.Updates (eq-value).it m n k (Some w) → f w ≡ option_map_or f (hash.get same_tag m k) d → (q : ModeKey)
-    → option_map_or f (hash.get same_tag n q) d ≡ option_map_or f (hash.get same_tag m q) d
+-- if the property is unchanged, nothing changes
+pub read-same : {X Y S : Type 0} (f : X → Y) (d : Y) (m n : HashMap ModeKey X S) (k : ModeKey) (w : X) → hash.Updates (eq-value).it m n k (Some w) → f w ≡ option_map_or f (hash.get same_key m k) d → (q : ModeKey)
+    → option_map_or f (hash.get same_key n q) d ≡ option_map_or f (hash.get same_key m q) d
 read-same f d m n k w is same q =
     read-put f d m n k w is q
-    ∙ same_step (same_tag k q) (f w) (option_map_or f (hash.get same_tag m q) d) (λ e. same ∙ ap (λ p. option_map_or f (hash.get same_tag m p) d) (tag_is k q e))
+    ∙ same_step (same_key k q) (f w) (option_map_or f (hash.get same_key m q) d) (λ e. same ∙ ap (λ p. option_map_or f (hash.get same_key m p) d) (key_is k q e))
 
--- what is read of the value at a mode key, in a clone of the map
+-- a property of the value at a mode key, in a clone of the map
 read_clone : {X Y : Type 0} (f : X → Y) (d : Y) (D : X → X → Type 0) → ((v w : X) → D v w → f w ≡ f v) → (o p : Option X) → MatchOption o (p ≡ None) (λ v. IsSomeAnd p (D v))
     → option_map_or f p d ≡ option_map_or f o d
 read_clone f d D same None p e = ap (λ x. option_map_or f x d) e
@@ -58,12 +58,12 @@ read_clone f d D same (Some v) None e = absurd e
 read_clone f d D same (Some v) (Some w) e = same v w e
 
 pub read-clone : {X Y S : Type 0} (f : X → Y) (d : Y) (C : ModeKey → ModeKey → Type 0) (D : X → X → Type 0) → ((x y : ModeKey) → C x y → y ≡ x) → ((v w : X) → D v w → f w ≡ f v)
-    → (m n : HashMap ModeKey X S) → hash.IsClone C D m n → (q : ModeKey) → option_map_or f (hash.get same_tag n q) d ≡ option_map_or f (hash.get same_tag m q) d
+    → (m n : HashMap ModeKey X S) → hash.IsClone C D m n → (q : ModeKey) → option_map_or f (hash.get same_key n q) d ≡ option_map_or f (hash.get same_key m q) d
 read-clone f d C D key same m n is q =
-    read_clone f d D same (hash.get same_tag m q) (hash.get same_tag n q) (lookup_clone C D (same_tag q) (λ x y e. ap (same_tag q) (key x y e)) m.entries n.entries is)
+    read_clone f d D same (hash.get same_key m q) (hash.get same_key n q) (lookup_clone C D (same_key q) (λ x y e. ap (same_key q) (key x y e)) m.entries n.entries is)
 
 -- what a map has at a mode key, after it is put there
-pub at_put : {X S : Type 0} (m n : HashMap ModeKey X S) (k : ModeKey) (w : X) → hash.Updates (eq-value).it m n k (Some w) → hash.get same_tag n k ≡ Some w
+pub at_put : {X S : Type 0} (m n : HashMap ModeKey X S) (k : ModeKey) (w : X) → hash.Updates (eq-value).it m n k (Some w) → hash.get same_key n k ≡ Some w
 at_put m n k w is = sym (got n k) ∙ is.1
 
 pub none_of : {X : Type 0} (o : Option X) → is_some o ≡ false → o ≡ None
@@ -75,12 +75,12 @@ if_same true x y z e = e refl
 if_same false x y z e = refl
 
 -- one more number at a mode key
-pub numbers-more : {A S : Type 0} (m n : HashMap ModeKey (ModeList A) S) (k : ModeKey) (l w : ModeList A) (number : ℕ) → hash.Updates (eq-value).it m n k (Some w) → hash.get same_tag m k ≡ Some l
-    → w.numbers.items ≡ l.numbers.items ++ number ∷ [] → (q : ModeKey) → numbers_in n q ≡ (if same_tag k q then numbers_in m q ++ number ∷ [] else numbers_in m q)
+pub numbers-more : {A S : Type 0} (m n : HashMap ModeKey (ModeList A) S) (k : ModeKey) (l w : ModeList A) (number : ℕ) → hash.Updates (eq-value).it m n k (Some w) → hash.get same_key m k ≡ Some l
+    → w.numbers.items ≡ l.numbers.items ++ number ∷ [] → (q : ModeKey) → numbers_in n q ≡ (if same_key k q then numbers_in m q ++ number ∷ [] else numbers_in m q)
 numbers-more m n k l w number is at more q =
     read-put (λ x. x.numbers.items) [] m n k w is q
-    ∙ if_same (same_tag k q) w.numbers.items (numbers_in m q ++ number ∷ []) (numbers_in m q)
-    (λ e. more ∙ ap (λ o. option_map_or (λ x. x.numbers.items) o [] ++ number ∷ []) (sym at) ∙ ap (λ p. numbers_in m p ++ number ∷ []) (tag_is k q e))
+    ∙ if_same (same_key k q) w.numbers.items (numbers_in m q ++ number ∷ []) (numbers_in m q)
+    (λ e. more ∙ ap (λ o. option_map_or (λ x. x.numbers.items) o [] ++ number ∷ []) (sym at) ∙ ap (λ p. numbers_in m p ++ number ∷ []) (key_is k q e))
 
 ended_step : (items : List HeldOp) (b : Bool) (ns ms : List ℕ) (f g : ℕ) → HaveEnded items ns f → HaveEnded items ms g → HaveEnded items (if b then ns else ms) (if b then f else g)
 ended_step items true ns ms f g x y = x
@@ -92,9 +92,9 @@ HaveEnded-same items ns ms f g e d is = subst (λ ls. HaveEnded items ls g) e (s
 pub FrontsHold-put : {A S : Type 0} (items : List HeldOp) (m n : HashMap ModeKey (ModeList A) S) (k : ModeKey) (w : ModeList A) → hash.Updates (eq-value).it m n k (Some w)
     → FrontsHold items m → HaveEnded items w.numbers.items w.front → FrontsHold items n
 FrontsHold-put items m n k w is hold ended q =
-    HaveEnded-same items (if same_tag k q then w.numbers.items else numbers_in m q) (numbers_in n q) (if same_tag k q then w.front else front_in m q) (front_in n q)
+    HaveEnded-same items (if same_key k q then w.numbers.items else numbers_in m q) (numbers_in n q) (if same_key k q then w.front else front_in m q) (front_in n q)
     (sym (read-put (λ x. x.numbers.items) [] m n k w is q)) (sym (read-put (λ x. x.front) 0 m n k w is q))
-    (ended_step items (same_tag k q) w.numbers.items (numbers_in m q) w.front (front_in m q) ended (hold q))
+    (ended_step items (same_key k q) w.numbers.items (numbers_in m q) w.front (front_in m q) ended (hold q))
 
 closed_test : (b c : Bool) → (b ≡ true → c ≡ true) → c ≡ false → b ≡ false
 closed_test true c opens e = let no : true ≡ false = sym (opens refl) ∙ e in cc
@@ -108,7 +108,7 @@ closed_step : (test : HeldOp → Bool) (o : Option HeldOp) → ((i : HeldOp) →
 closed_step test None opens e = refl
 closed_step test (Some i) opens e = closed_test (test i) (is_open i.fate) (opens i) (not_true (is_open i.fate) e)
 
--- where a front holds, nothing that is in progress is passed over
+-- if the ended prefix is right, no operation in progress is skipped
 closed : (test : HeldOp → Bool) (items : List HeldOp) (n : ℕ) → ((i : HeldOp) → test i ≡ true → is_open i.fate ≡ true) → is_ended_at items n ≡ true → passes_at test items n ≡ false
 closed test items n opens e = closed_step test (operation_at items n) opens e
 
@@ -151,7 +151,7 @@ AreListed-more mode items m n i number at is after q =
     let here = is q in let now = after q in
     grind (arith, common_steps, more, here, now, at)
 
--- what an operation is of does not change as it ends or goes to another
+-- the mode of an operation does not change when it ends or is transferred
 numbers-mapped : (test : HeldOp → Bool) (f : HeldOp → HeldOp) (n : ℕ) (items : List HeldOp) → ((i : HeldOp) → test (f i) ≡ test i) → numbers_from test n (map f items) ≡ numbers_from test n items
 numbers-mapped test f n [] e = refl
 numbers-mapped test f n (i ∷ items) e =
@@ -177,7 +177,7 @@ numbers-transferred_of mode q t ops u n (i ∷ items) =
 pub AreListed-transferred_of : {A S : Type 0} (mode : Op → Option LockMode) (items : List HeldOp) (m : HashMap ModeKey (ModeList A) S) (t : ℕ) (ops : List OpNo) (u : TxnId) → AreListed mode items m → AreListed mode (transferred_of t ops u items) m
 AreListed-transferred_of mode items m t ops u is q = is q ∙ sym (numbers-transferred_of mode q t ops u 1 items)
 
--- nothing that has ended begins again
+-- an operation that has ended never begins again
 abbrev pub NoneReopens : List HeldOp → List HeldOp → Type 0
 NoneReopens items after = (n : ℕ) → is_ended_at items n ≡ true → is_ended_at after n ≡ true
 
@@ -231,7 +231,7 @@ NoneReopens-added : (items : List HeldOp) (x : HeldOp) → NoneReopens items (it
 NoneReopens-added items x zero e = e
 NoneReopens-added items x (suc k) e = appended_at items x k e
 
--- one more number behind those that are listed
+-- one more number at the end of a list
 longer : (items : List HeldOp) (ns : List ℕ) (n front : ℕ) → HaveEnded items ns front → HaveEnded items (ns ++ n ∷ []) front
 longer items ns n front is =
     (omega (arith, is.0, length_push ns n), ap (list_all (is_ended_at items)) (take-append-le front ns (n ∷ []) is.0) ∙ is.1)

@@ -1,4 +1,4 @@
--- The partners of the grants on an object come ascending.
+-- The partners of the grants on an object are ascending.
 use Rattle.std.specs.Prelude.{◌≡◌, ℕ, Bool, true, false, ◌==◌, nat_le, List, [], ◌∷◌, filter, if◌then◌else◌}
 use Rattle.std.proofs.Common.{arith, refl, sym, ap, subst, ◌∙◌, Less, Equal}
 use Rattle.std.proofs.lemmas.Bool.{eqb-true, and_parts}
@@ -29,7 +29,7 @@ all-on : (ob : ℕ) (gs : List Grant) → AllByRecursion (λ g. g.object.0 ≡ o
 all-on ob [] = tt
 all-on ob (k ∷ gs) = all-on-by ob (on ob k) k (filter (on ob) gs) refl (all-on ob gs)
 
--- of two grants on one object the order is that of the partners
+-- grants on one object are ordered by partner
 all-less : (ob : ℕ) (g : Grant) (gs : List Grant) → g.object.0 ≡ ob → AllByRecursion (λ k. k.object.0 ≡ ob) gs → AllByRecursion (λ k. grant_cmp g k ≡ Less) gs → AllByRecursion (λ u. txn_cmp g.partner u ≡ Less) (partners_of gs)
 all-less ob g [] here all less = tt
 all-less ob g (k ∷ gs) here all less =

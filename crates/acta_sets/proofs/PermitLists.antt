@@ -25,7 +25,7 @@ listed_to to (g ∷ gs) h t object =
     ap (λ b. ((to.0 == t) && is_grant object h g) || b) (listed_to to gs h t object)
     ∙ both_or (to.0 == t) (is_grant object h g) (has_grant gs object h)
 
--- the permits of those before a number, and of that number
+-- the permits of the transactions below a number, and of that number
 one_more : (t n : ℕ) (b c : Bool) → (n ≡ t → c ≡ b) → ((nat_lt t n && b) || ((n == t) && c)) ≡ (nat_lt t (n + 1) && b)
 one_more t n b c here = grind (arith, nat_tests, here)
 
@@ -41,7 +41,7 @@ listed_more table permits to gs at before h t object =
 pub listed_none : (b : Bool) (t : ℕ) → false ≡ (nat_lt t 0 && b)
 listed_none b t = grind (arith, nat_tests)
 
--- none is past the end
+-- there are none past the end
 pub listed_all : (table : List (BTreeSet Grant)) (permits : List Permit)
     → ((h t object : ℕ) → is_listed permits h t object ≡ (nat_lt t (length table) && is_granted table t object h))
     → (h t object : ℕ) → is_listed permits h t object ≡ is_granted table t object h
@@ -87,7 +87,7 @@ unfolding IsStrictlySortedBy
 sorted_to to [] up = tt
 sorted_to to (g ∷ gs) up = (all_to to g gs up.0, sorted_to to gs up.1)
 
--- the permits are those of transactions below this number
+-- the permits are those of the transactions below this number
 abbrev pub AreBelow : ℕ → List Permit → Type 0
 AreBelow n permits = AllByRecursion (λ p. p.to.0 < n) permits
 

@@ -1,4 +1,4 @@
--- What is done to the sets of grants, read of who has permitted whom.
+-- Changes of the sets of grants, in terms of who has permitted whom.
 use Rattle.std.specs.Prelude.{◌≡◌, ◌≤◌, ℕ, Bool, true, false, not, ◌&&◌, ◌||◌, ◌==◌, nat_le, List, [], length}
 use Rattle.std.proofs.Common.{arith, refl, sym, ap, subst, ◌∙◌}
 use Rattle.std.proofs.lemmas.List.{length-map}
@@ -36,7 +36,7 @@ unfolding permitted
 permitted-more taken after h t ob more = λ i g u object.
     (more u object g ∙ ap (λ b. is_granted taken u object g || b) (turned (t == u) (ob == object) (h == g))) i
 
--- what is put where one is permitted is put where the other permits too
+-- a permit is inserted for both its receiver and its giver
 either_more : (a b x y z : Bool) → (a ≡ true → b ≡ true) → (a || (x && (y && z))) ≡ true → (b || (z && (y && x))) ≡ true
 either_more true b x y z mirrored is = ap (λ c. c || (z && (y && x))) (mirrored refl)
 either_more false true x y z mirrored is = refl
@@ -132,7 +132,7 @@ AreMirrored-ended taken given taken1 taken2 given1 given2 given_out taken_out t 
     left : (v object partner : ℕ) → is_granted taken2 v object partner ≡ ((is_granted taken v object partner && not (t == partner)) && not (t == v))
     left = taken_left taken given taken1 taken2 given_out t mirrored.back out first second
 
--- a number past those of a code has permitted nothing
+-- numbers above 65,535 have given no permit, so excluding them changes nothing
 pub small-and : (a : Bool) (h : ℕ) → (a ≡ true → h ≤ 65535) → (a && nat_le h 65535) ≡ a
 small-and true h small = let le = small refl in grind (arith, nat_tests, le)
 small-and false h small = refl

@@ -1,4 +1,4 @@
--- Where no operation is named.
+-- The case that no operation is named.
 use Rattle.std.specs.Prelude.{◌≡◌, ℕ, ◌==◌, true, List, [], ◌∷◌, length}
 use Rattle.std.proofs.Common.{arith, refl, sym, ap, ◌∙◌}
 use Rattle.std.proofs.lemmas.Bool.{eqb-true}
@@ -17,10 +17,10 @@ all_without : (ops : List ℕ) → without [] ops ≡ ops
 all_without [] = refl
 all_without (o ∷ ops) = ap (λ (rest : List ℕ). o ∷ rest) (all_without ops)
 
--- none of a list is named
+-- no item of the list is named
 pub named_of-none : (named : List OpNo) (ops : List ℕ) → true ≡ (length named == 0) → named_of named ops ≡ []
 named_of-none named ops e = ap (λ (ns : List OpNo). named_of ns ops) (none_in named e) ∙ none_named ops
 
--- and all of it is left
+-- and all of the list is left
 pub without-none : (named : List OpNo) (ops : List ℕ) → true ≡ (length named == 0) → without named ops ≡ ops
 without-none named ops e = ap (λ (ns : List OpNo). without ns ops) (none_in named e) ∙ all_without ops

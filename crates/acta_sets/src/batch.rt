@@ -1,6 +1,6 @@
 ghost use Rattle.std.specs.Prelude.{◌≡◌, ◌≢◌, ◌<◌, ◌≤◌, ◌+◌, ◌-◌, ◌*◌, ◌^◌, ℕ, min};
 ghost use Rattle.std.specs.HashMap.{spare};
-ghost use Rattle.acta_sets.specs.declared.mode.ModeKey.{ModeKey as the_tag};
+ghost use Rattle.acta_sets.specs.declared.mode.ModeKey.{ModeKey as a_mode_key};
 ghost use Rattle.acta_sets.specs.Operations.{transferred_op};
 ghost use Rattle.acta_sets.specs.inside.Filing.{count, filings, tally_batch};
 
@@ -10,8 +10,8 @@ use crate::mode::{Holder, are_equivalent};
 use acta_table::{Fate, ObjId, Op, TxnId};
 use std::alloc::Allocator;
 
-/// Operations that are handed on one after another, on one object and in the same modes: so many as this one. What they
-/// change of the counts is added up, and each count is written once.
+/// A number of operations like `item` (same object, same modes) that are transferred one after another. Their changes
+/// to the counts are added up, so that each count is written once.
 #[derive(Clone, Copy)]
 pub(crate) struct Batch {
     pub item: HeldOp,
@@ -19,7 +19,7 @@ pub(crate) struct Batch {
 }
 
 impl Batch {
-    /// No operation.
+    /// The empty batch.
     pub(crate) fn empty(t: TxnId) -> Batch
         ensures { result.length ≡ 0 }
     {
@@ -35,11 +35,11 @@ impl Batch {
     }
 }
 
-/// The operations of the batch, filed as those of `t`, are filed as those of `u` instead.
+/// Moves the operations of the batch from `t`'s counts to `u`'s.
 pub(crate) fn settle<A: Allocator + Copy>(counts: &mut Counts<A>, batch: Batch, t: TxnId, u: TxnId)
     requires room { 2 * min batch.length 1 ≤ spare counts.old }
-    requires small { (q : the_tag) → count counts.old q + 2 * batch.length < 2 ^ 32 }
-    ensures counted { (q : the_tag) → count counts.new q ≡ (count counts.old q - tally_batch q t.0 batch) + tally_batch q u.0 batch }
+    requires small { (q : a_mode_key) → count counts.old q + 2 * batch.length < 2 ^ 32 }
+    ensures counted { (q : a_mode_key) → count counts.new q ≡ (count counts.old q - tally_batch q t.0 batch) + tally_batch q u.0 batch }
     ensures room { spare counts.old ≤ spare counts.new + 2 * min batch.length 1 }
 {
     if batch.length > 0 {
@@ -48,8 +48,8 @@ pub(crate) fn settle<A: Allocator + Copy>(counts: &mut Counts<A>, batch: Batch, 
     }
 }
 
-/// The batch, with the operation where `t` holds it in progress, so that it goes to `u`. Where it is not like those of the
-/// batch, these are settled, and it begins another.
+/// The batch after the transfer of the operation to `u`, if `t` holds it in progress. If the operation is unlike those
+/// of the batch, the batch is settled and a new one begins.
 pub(crate) fn transfer<A: Allocator + Copy>(
     counts: &mut Counts<A>,
     batch: Batch,
@@ -59,9 +59,9 @@ pub(crate) fn transfer<A: Allocator + Copy>(
 ) -> Batch
     requires other { t.0 ≢ u.0 }
     requires room { 2 * min batch.length 1 ≤ spare counts.old }
-    requires small { (q : the_tag) → count counts.old q + 2 * batch.length < 2 ^ 32 }
+    requires small { (q : a_mode_key) → count counts.old q + 2 * batch.length < 2 ^ 32 }
     requires short { batch.length + 1 < 2 ^ 32 }
-    ensures filed { (q : the_tag) → (n : ℕ) → n + tally_batch q t.0 batch ≡ count counts.old q + tally_batch q u.0 batch → (n + filings q (transferred_op t.0 u item)) + tally_batch q t.0 result ≡ (count counts.new q + tally_batch q u.0 result) + filings q item }
+    ensures filed { (q : a_mode_key) → (n : ℕ) → n + tally_batch q t.0 batch ≡ count counts.old q + tally_batch q u.0 batch → (n + filings q (transferred_op t.0 u item)) + tally_batch q t.0 result ≡ (count counts.new q + tally_batch q u.0 result) + filings q item }
     ensures room { spare counts.old + 2 * min result.length 1 ≤ (spare counts.new + 2) + 2 * min batch.length 1 }
     ensures short { result.length ≤ batch.length + 1 }
 {

@@ -1,10 +1,9 @@
-//! What a transaction's end, and a hand-over, change in the list of operations and in what is counted and listed beside
-//! it.
+//! Changes by the end of a transaction and by transfers, to the list of operations and to its counts and indexes.
 
 ghost use Rattle.std.specs.Prelude.{◌≡◌, ◌≢◌, ◌<◌, ◌≤◌, ◌+◌, ◌*◌, false, length, min};
 ghost use Rattle.std.specs.HashMap.{spare};
 ghost use Rattle.acta_table.specs.Fates.{is_open};
-ghost use Rattle.acta_sets.specs.declared.mode.ModeKey.{ModeKey as the_tag};
+ghost use Rattle.acta_sets.specs.declared.mode.ModeKey.{ModeKey as a_mode_key};
 ghost use Rattle.acta_sets.specs.Operations.{ended_op, transferred_op};
 ghost use Rattle.acta_sets.specs.inside.Held.{changed_at, changed_each};
 ghost use Rattle.acta_sets.specs.inside.Listing.{numbers_in, FrontsHold};
@@ -18,7 +17,7 @@ use crate::{batch, counts, listing, mode};
 use acta_table::{Fate, MOST_EVENTS, TxnId};
 use std::alloc::Allocator;
 
-// The operation of this number gets this fate, where the transaction holds it in progress.
+// Gives the operation with this number this fate, if the transaction holds it in progress.
 fn end_one<A: Allocator + Copy>(
     items: &mut Vec<HeldOp, A>,
     counts: &mut Counts<A>,
@@ -40,7 +39,7 @@ fn end_one<A: Allocator + Copy>(
     }
 }
 
-/// The operations of these numbers get this fate, where the transaction holds them in progress.
+/// Gives the operations with these numbers this fate, if the transaction holds them in progress.
 pub(crate) fn end_each<A: Allocator + Copy>(
     items: &mut Vec<HeldOp, A>,
     counts: &mut Counts<A>,
@@ -57,7 +56,7 @@ pub(crate) fn end_each<A: Allocator + Copy>(
     }
 }
 
-// Finds out again how many of the modes of an operation have ended.
+// Advances the ended prefix of the mode lists that have this operation.
 fn advance_one<A: Allocator + Copy>(
     coarse: &mut ModeLists<A>,
     fine: &mut ModeLists<A>,
@@ -66,8 +65,8 @@ fn advance_one<A: Allocator + Copy>(
 )
     requires coarse { FrontsHold items.now coarse.old }
     requires fine { FrontsHold items.now fine.old }
-    ensures coarse { (q : the_tag) → numbers_in coarse.new q ≡ numbers_in coarse.old q }
-    ensures fine { (q : the_tag) → numbers_in fine.new q ≡ numbers_in fine.old q }
+    ensures coarse { (q : a_mode_key) → numbers_in coarse.new q ≡ numbers_in coarse.old q }
+    ensures fine { (q : a_mode_key) → numbers_in fine.new q ≡ numbers_in fine.old q }
     ensures coarse_fronts { FrontsHold items.now coarse.new }
     ensures fine_fronts { FrontsHold items.now fine.new }
 {
@@ -82,7 +81,7 @@ fn advance_one<A: Allocator + Copy>(
     }
 }
 
-/// Finds out again how many of the modes of these operations have ended.
+/// Advances the ended prefix of the mode lists that have these operations.
 pub(crate) fn advance_each<A: Allocator + Copy>(
     coarse: &mut ModeLists<A>,
     fine: &mut ModeLists<A>,
@@ -91,8 +90,8 @@ pub(crate) fn advance_each<A: Allocator + Copy>(
 )
     requires coarse { FrontsHold items.now coarse.old }
     requires fine { FrontsHold items.now fine.old }
-    ensures coarse { (q : the_tag) → numbers_in coarse.new q ≡ numbers_in coarse.old q }
-    ensures fine { (q : the_tag) → numbers_in fine.new q ≡ numbers_in fine.old q }
+    ensures coarse { (q : a_mode_key) → numbers_in coarse.new q ≡ numbers_in coarse.old q }
+    ensures fine { (q : a_mode_key) → numbers_in fine.new q ≡ numbers_in fine.old q }
     ensures coarse_fronts { FrontsHold items.now coarse.new }
     ensures fine_fronts { FrontsHold items.now fine.new }
 {
@@ -101,8 +100,8 @@ pub(crate) fn advance_each<A: Allocator + Copy>(
     }
 }
 
-// The operation of this number is held by `u`, where the transaction holds it in progress; what it changes of the counts
-// joins the batch.
+// Makes `u` the holder of the operation with this number, if the transaction holds it in progress. Its change of the
+// counts joins the batch.
 fn transfer_one<A: Allocator + Copy>(
     items: &mut Vec<HeldOp, A>,
     counts: &mut Counts<A>,
@@ -134,8 +133,8 @@ fn transfer_one<A: Allocator + Copy>(
     batch
 }
 
-// The operations of these numbers are held by `u`, where the transaction holds them in progress, and the last batch of
-// them is not settled.
+// Makes `u` the holder of those of the operations that the transaction holds in progress. The last batch is not
+// settled.
 fn transfer_batches<A: Allocator + Copy>(
     items: &mut Vec<HeldOp, A>,
     counts: &mut Counts<A>,
@@ -161,7 +160,7 @@ fn transfer_batches<A: Allocator + Copy>(
     batch
 }
 
-/// The operations of these numbers are held by `u`, where the transaction holds them in progress.
+/// Makes `u` the holder of those of the operations that the transaction holds in progress.
 pub(crate) fn transfer_each<A: Allocator + Copy>(
     items: &mut Vec<HeldOp, A>,
     counts: &mut Counts<A>,

@@ -7,12 +7,12 @@ ghost use Rattle.std.specs.Ordering.{as_partial_cmp};
 use acta_table::{ObjId, TxnId};
 use std::cmp::Ordering;
 
-/// That one transaction permits another to work on an object, as one of the two knows it. Grants are ordered by object,
-/// and then by partner.
+/// A permit to work on an object, as recorded with one of its two transactions. Grants are ordered by object, then by
+/// partner.
 #[derive(Clone, Copy, Debug)]
 pub struct Grant {
     pub object: ObjId,
-    /// The other of the two.
+    /// The other transaction.
     pub partner: TxnId,
 }
 

@@ -1,4 +1,4 @@
-//! Sets of grants, one for each transaction, by its number.
+//! Sets of grants, one for each transaction, indexed by its number.
 
 ghost use Rattle.std.specs.Prelude.{◌≡◌, ◌<◌, ◌≤◌, ◌==◌, ◌&&◌, ◌||◌, ◌++◌, ℕ, nat_le, length, not, IfOk, OnOk, OnErr};
 ghost use Rattle.acta_sets.specs.Operations.{is_among};
@@ -13,20 +13,20 @@ use std::alloc::{AllocError, Allocator};
 use std::collections::BTreeSet;
 use std::mem;
 
-/// Some grants.
+/// A set of grants.
 pub(crate) type Grants<A> = BTreeSet<Grant, A>;
 
-/// The grants of each transaction, by its number.
+/// The grants of each transaction, indexed by its number.
 pub(crate) type Granted<A> = Vec<BTreeSet<Grant, A>, A>;
 
-/// The same grants, in memory of their own.
+/// Returns a copy of the table.
 pub(crate) fn copied<A: Allocator + Copy>(table: &Granted<A>) -> Result<Granted<A>, AllocError>
     ensures { IfOk result (λ copied. grant_lists copied.items ≡ grant_lists table.now.items) }
 {
     table.clone()
 }
 
-// Makes the set at this place, if there is none, with no other change.
+// Extends the table so that it has a set at this place. Nothing else changes.
 fn grow_to<A: Allocator + Copy>(table: &mut Granted<A>, at: u16) -> Result<(), AllocError>
     ensures same { (v object partner : ℕ) → is_granted table.new.items v object partner ≡ is_granted table.old.items v object partner }
     ensures room { OnOk result (at < length table.new.items) }
@@ -39,7 +39,7 @@ fn grow_to<A: Allocator + Copy>(table: &mut Granted<A>, at: u16) -> Result<(), A
     Ok(())
 }
 
-// Puts the grant among these. On `Err` they stay as they were.
+// Inserts the grant. On `Err` the set is unchanged.
 fn note<A: Allocator + Copy>(grants: &mut Grants<A>, grant: Grant) -> Result<(), AllocError>
     ensures ok { OnOk result ((object partner : ℕ) → has_grant grants.new.keys object partner ≡ (has_grant grants.old.keys object partner || is_grant object partner grant)) }
     ensures err { OnErr result (grants.new.keys ≡ grants.old.keys) }
@@ -50,7 +50,7 @@ fn note<A: Allocator + Copy>(grants: &mut Grants<A>, grant: Grant) -> Result<(),
     }
 }
 
-// Puts the grant among those at a place. On `Err` nothing has changed.
+// Inserts the grant into the set at a place. On `Err` nothing changes.
 fn note_at<A: Allocator + Copy>(
     table: &mut Granted<A>,
     at: u16,
@@ -67,7 +67,7 @@ fn note_at<A: Allocator + Copy>(
     }
 }
 
-/// Puts the grant among those of a transaction. On `Err` nothing has changed.
+/// Inserts the grant into a transaction's set. On `Err` nothing changes.
 pub(crate) fn add<A: Allocator + Copy>(
     table: &mut Granted<A>,
     at: u16,
@@ -83,7 +83,7 @@ pub(crate) fn add<A: Allocator + Copy>(
     }
 }
 
-/// Whether the grant is among those of a transaction.
+/// Whether the grant is in a transaction's set.
 pub(crate) fn has<A: Allocator + Copy>(table: &Granted<A>, at: u16, grant: &Grant) -> bool
     ensures { result ≡ is_granted table.now.items at grant.now.object.0 grant.now.partner.0 }
 {
@@ -93,7 +93,7 @@ pub(crate) fn has<A: Allocator + Copy>(table: &Granted<A>, at: u16, grant: &Gran
     }
 }
 
-/// Takes out the grants of a transaction.
+/// Removes and returns the grants of a transaction.
 pub(crate) fn taken_out<A: Allocator + Copy>(table: &mut Granted<A>, at: u16) -> Grants<A>
     ensures grants { (object partner : ℕ) → has_grant result.keys object partner ≡ is_granted table.old.items at object partner }
     ensures others { (v object partner : ℕ) → is_granted table.new.items v object partner ≡ (is_granted table.old.items v object partner && not (at == v)) }
@@ -106,14 +106,14 @@ pub(crate) fn taken_out<A: Allocator + Copy>(table: &mut Granted<A>, at: u16) ->
     }
 }
 
-// Takes a grant away from these.
+// Removes the grant.
 fn leave_out<A: Allocator + Copy>(grants: &mut Grants<A>, grant: &Grant)
     ensures { (object partner : ℕ) → has_grant grants.new.keys object partner ≡ (has_grant grants.old.keys object partner && not (is_grant object partner grant.now)) }
 {
     grants.remove(grant);
 }
 
-// Takes a grant away from those at a place.
+// Removes the grant from the set at a place.
 fn leave_out_at<A: Allocator + Copy>(table: &mut Granted<A>, at: u16, grant: &Grant)
     ensures left { (v object partner : ℕ) → is_granted table.new.items v object partner ≡ (is_granted table.old.items v object partner && not ((at == v) && is_grant object partner grant.now)) }
     ensures few { length table.old.items ≤ 65536 → length table.new.items ≤ 65536 }
@@ -123,7 +123,7 @@ fn leave_out_at<A: Allocator + Copy>(table: &mut Granted<A>, at: u16, grant: &Gr
     }
 }
 
-/// Takes away, from the partner of each of these grants, the one on the same object whose partner is the transaction.
+/// For each of these grants, removes the matching grant from its partner's set.
 pub(crate) fn leave_out_each<A: Allocator + Copy>(
     table: &mut Granted<A>,
     grants: &Grants<A>,
@@ -165,7 +165,7 @@ fn partners_among<A: Allocator + Copy>(
     Ok(partners)
 }
 
-/// The partners of those of a transaction's grants that are on the object, ascending.
+/// The partners of a transaction's grants on the object, ascending.
 pub(crate) fn partners<A: Allocator + Copy>(
     table: &Granted<A>,
     at: u16,
@@ -208,7 +208,7 @@ pub(crate) fn list_of<A: Allocator + Copy>(
     }
 }
 
-// Puts the permits that these grants of a transaction are behind others.
+// Appends the permits that these grants stand for.
 fn put_permits<A: Allocator + Copy>(
     permits: &mut Vec<Permit, A>,
     to: TxnId,
@@ -227,7 +227,7 @@ fn put_permits<A: Allocator + Copy>(
     Ok(())
 }
 
-/// The grants of all transactions as one list of permits, in order.
+/// The grants of all transactions as a list of permits, in order.
 pub(crate) fn permits<A: Allocator + Copy>(table: &Granted<A>) -> Result<Vec<Permit, A>, AllocError>
     requires { length table.now.items ≤ 65536 }
     ensures listed { IfOk result (λ list. (h t object : ℕ) → is_listed list.items h t object ≡ is_granted table.now.items t object h) }

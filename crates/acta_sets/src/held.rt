@@ -11,13 +11,13 @@ use smallvec::SmallVec;
 use std::alloc::AllocError;
 use std::collections::BTreeSet;
 
-/// A list of operations, ascending; a short one needs no memory of its own.
+/// A list of operation numbers, ascending. A short list is stored inline.
 pub(crate) type OpList<A> = SmallVec<u32, 8, A>;
 
-/// The operations that each transaction holds in progress, by its number.
+/// The operations that each transaction holds in progress, indexed by transaction number.
 pub(crate) type Held<A> = Vec<SmallVec<u32, 8, A>, A>;
 
-// The same list, in memory of its own.
+// Returns a copy of the list.
 fn copied_list<A: Handle>(alloc: A, list: &[u32]) -> Result<OpList<A>, AllocError>
     ensures { IfOk result (λ (copied : short_list _). copied.items ≡ list.now) }
 {
@@ -26,7 +26,7 @@ fn copied_list<A: Handle>(alloc: A, list: &[u32]) -> Result<OpList<A>, AllocErro
     Ok(copied)
 }
 
-/// The same lists, in memory of their own.
+/// Returns a copy of the lists.
 pub(crate) fn copied<A: Handle>(held: &Held<A>) -> Result<Held<A>, AllocError>
     ensures { IfOk result (λ copied. lists copied.items ≡ lists held.now.items) }
 {
@@ -38,7 +38,7 @@ pub(crate) fn copied<A: Handle>(held: &Held<A>) -> Result<Held<A>, AllocError>
     Ok(copied)
 }
 
-/// Makes the list at this place, if there is none, with no other change.
+/// Extends the table so that it has a list at this place. Nothing else changes.
 fn grow_to<A: Handle>(held: &mut Held<A>, at: u16) -> Result<(), AllocError>
     ensures same { (t : ℕ) → list_at held.new.items t ≡ list_at held.old.items t }
     ensures room { OnOk result (at < length held.new.items) }
@@ -50,7 +50,7 @@ fn grow_to<A: Handle>(held: &mut Held<A>, at: u16) -> Result<(), AllocError>
     Ok(())
 }
 
-/// Puts an operation behind those at a place. On `Err` it is not there.
+/// Appends an operation to the list at a place. On `Err` it is not appended.
 fn push_at<A: Handle>(held: &mut Held<A>, at: u16, op: u32) -> Result<(), AllocError>
     requires { at < length held.old.items }
     ensures ok { OnOk result (lists held.new.items ≡ set (lists held.old.items) at (list_at held.old.items at ++ op ∷ [])) }
@@ -62,7 +62,7 @@ fn push_at<A: Handle>(held: &mut Held<A>, at: u16, op: u32) -> Result<(), AllocE
     Ok(())
 }
 
-/// Puts an operation behind those of a transaction. On `Err` it is not there.
+/// Appends an operation to a transaction's list. On `Err` it is not appended.
 fn add_at<A: Handle>(held: &mut Held<A>, at: u16, op: u32) -> Result<(), AllocError>
     ensures ok { OnOk result ((v : ℕ) → list_at held.new.items v ≡ (if v == at then list_at held.old.items at ++ op ∷ [] else list_at held.old.items v)) }
     ensures err { OnErr result ((v : ℕ) → list_at held.new.items v ≡ list_at held.old.items v) }
@@ -83,7 +83,7 @@ pub(crate) fn list_of<A: Handle>(held: &Held<A>, at: u16) -> &[u32]
     }
 }
 
-/// Empties the list at a place, and gives back its room: most who hold nothing any more have ended.
+/// Empties the list at a place and frees its memory: most transactions that hold nothing any more have ended.
 fn clear_at<A: Handle>(held: &mut Held<A>, at: u16)
     ensures { (v : ℕ) → list_at held.new.items v ≡ (if v == at then [] else list_at held.old.items v) }
 {
@@ -93,7 +93,7 @@ fn clear_at<A: Handle>(held: &mut Held<A>, at: u16)
     }
 }
 
-// Takes those that are named out of a list.
+// Removes the named operations from a list.
 fn leave_out<A: Handle>(list: &mut OpList<A>, ops: &OpSet<A>)
     ensures { list.new.items ≡ without ops.now list.old.items }
 {
@@ -103,7 +103,7 @@ fn leave_out<A: Handle>(list: &mut OpList<A>, ops: &OpSet<A>)
     list.retain(|op| !ops.has_number(*op as usize));
 }
 
-/// Takes those that are named out of the list at a place.
+/// Removes the named operations from the list at a place.
 pub(crate) fn leave_out_at<A: Handle>(held: &mut Held<A>, at: u16, ops: &OpSet<A>)
     ensures { (v : ℕ) → list_at held.new.items v ≡ (if v == at then without ops.now (list_at held.old.items at) else list_at held.old.items v) }
 {
@@ -112,7 +112,7 @@ pub(crate) fn leave_out_at<A: Handle>(held: &mut Held<A>, at: u16, ops: &OpSet<A
     }
 }
 
-// Those of the list that are named.
+// The named operations of the list.
 fn picked<A: Handle>(alloc: A, list: &[u32], ops: &OpSet<A>) -> Result<Vec<u32, A>, AllocError>
     ensures { IfOk result (λ named. named.items ≡ named_of ops.now list.now) }
 {
@@ -125,7 +125,7 @@ fn picked<A: Handle>(alloc: A, list: &[u32], ops: &OpSet<A>) -> Result<Vec<u32, 
     Ok(named)
 }
 
-/// Those of the list that are named.
+/// The named operations of the list.
 pub(crate) fn named_in<A: Handle>(
     alloc: A,
     list: &[u32],
@@ -139,7 +139,7 @@ pub(crate) fn named_in<A: Handle>(
     picked(alloc, list, ops)
 }
 
-/// The first of the list that is not named.
+/// The first operation of the list that is not named.
 pub(crate) fn first_unnamed<A: Handle>(list: &[u32], ops: &OpSet<A>) -> Option<u32>
     ensures { result ≡ find (λ n. not (is_named ops.now n)) list.now }
 {
@@ -151,7 +151,7 @@ pub(crate) fn first_unnamed<A: Handle>(list: &[u32], ops: &OpSet<A>) -> Option<u
     None
 }
 
-/// The operations of these numbers.
+/// The operations with these numbers.
 pub(crate) fn numbered<A: Handle>(alloc: A, list: &[u32]) -> Result<Vec<OpNo, A>, AllocError>
     ensures { IfOk result (λ ops. ops.items ≡ numbered list.now) }
 {
@@ -162,7 +162,7 @@ pub(crate) fn numbered<A: Handle>(alloc: A, list: &[u32]) -> Result<Vec<OpNo, A>
     Ok(ops)
 }
 
-// Whether the last of the first is below the first of the second, or one is empty.
+// Whether the first list can be followed by the second: its last number is lower, or one of them is empty.
 fn is_before(ops: &[u32], more: &[u32]) -> bool
     ensures { result ≡ is_below ops.now more.now }
 {
@@ -172,7 +172,7 @@ fn is_before(ops: &[u32], more: &[u32]) -> bool
     }
 }
 
-// The two ascending lists as one.
+// Merges the two ascending lists.
 fn merged<A: Handle>(alloc: A, ops: &[u32], more: &[u32]) -> Result<OpList<A>, AllocError>
     ensures { IfOk result (λ (list : short_list _). list.items ≡ merge ops.now more.now) }
 {
@@ -193,7 +193,7 @@ fn merged<A: Handle>(alloc: A, ops: &[u32], more: &[u32]) -> Result<OpList<A>, A
     Ok(all)
 }
 
-// Puts an ascending list into another. On `Err` it is as it was.
+// Merges an ascending list into another. On `Err` the other is unchanged.
 fn join<A: Handle>(list: &mut OpList<A>, more: &[u32]) -> Result<(), AllocError>
     ensures ok { OnOk result (list.new.items ≡ joined list.old.items more.now) }
     ensures err { OnErr result (list.new.items ≡ list.old.items) }
@@ -206,7 +206,7 @@ fn join<A: Handle>(list: &mut OpList<A>, more: &[u32]) -> Result<(), AllocError>
     Ok(())
 }
 
-/// Puts an ascending list into that at a place. On `Err` it is as it was.
+/// Merges an ascending list into the list at a place. On `Err` it is unchanged.
 fn join_at<A: Handle>(held: &mut Held<A>, at: u16, more: &[u32]) -> Result<(), AllocError>
     requires { at < length held.old.items }
     ensures ok { OnOk result (lists held.new.items ≡ set (lists held.old.items) at (joined (list_at held.old.items at) more.now)) }
@@ -218,7 +218,7 @@ fn join_at<A: Handle>(held: &mut Held<A>, at: u16, more: &[u32]) -> Result<(), A
     }
 }
 
-/// Puts an ascending list into that of a transaction. On `Err` it is as it was.
+/// Merges an ascending list into a transaction's list. On `Err` it is unchanged.
 fn share_at<A: Handle>(held: &mut Held<A>, at: u16, more: &[u32]) -> Result<(), AllocError>
     ensures ok { OnOk result ((v : ℕ) → list_at held.new.items v ≡ (if v == at then joined (list_at held.old.items at) more.now else list_at held.old.items v)) }
     ensures err { OnErr result ((v : ℕ) → list_at held.new.items v ≡ list_at held.old.items v) }
@@ -229,17 +229,17 @@ fn share_at<A: Handle>(held: &mut Held<A>, at: u16, more: &[u32]) -> Result<(), 
     }
 }
 
-/// Those who hold something, by number. One who holds nothing any more may be among them still: the lists say who does.
+/// The transactions that hold operations, by number. It may contain others that no longer do: the lists decide.
 pub(crate) type Holders<A> = BTreeSet<u16, A>;
 
-/// The same holders, in memory of their own.
+/// Returns a copy of the holders.
 pub(crate) fn copied_holders<A: Handle>(holders: &Holders<A>) -> Result<Holders<A>, AllocError>
     ensures { IfOk result (λ copied. copied.keys ≡ holders.now.keys) }
 {
     holders.clone()
 }
 
-// The transaction is among the holders. On `Err` they stay as they were.
+// Adds the transaction to the holders. On `Err` they are unchanged.
 fn note<A: Handle>(holders: &mut Holders<A>, at: u16) -> Result<(), AllocError>
     ensures ok { OnOk result (holders.new.keys ≡ insert_key nat_cmp holders.old.keys at) }
     ensures err { OnErr result (holders.new.keys ≡ holders.old.keys) }
@@ -250,7 +250,7 @@ fn note<A: Handle>(holders: &mut Holders<A>, at: u16) -> Result<(), AllocError>
     }
 }
 
-/// Puts an operation behind those of a transaction, which is among the holders then. On `Err` it is not there.
+/// Appends an operation to a transaction's list, and adds the transaction to the holders. On `Err` it is not appended.
 pub(crate) fn add_held<A: Handle>(
     held: &mut Held<A>,
     holders: &mut Holders<A>,
@@ -268,7 +268,8 @@ pub(crate) fn add_held<A: Handle>(
     }
 }
 
-/// Puts an ascending list into that of a transaction, which is among the holders then. On `Err` it is as it was.
+/// Merges an ascending list into a transaction's list, and adds the transaction to the holders. On `Err` the list is
+/// unchanged.
 pub(crate) fn share_held<A: Handle>(
     held: &mut Held<A>,
     holders: &mut Holders<A>,
@@ -286,7 +287,7 @@ pub(crate) fn share_held<A: Handle>(
     }
 }
 
-/// Empties the list at a place, whose transaction is among the holders no more.
+/// Empties the list at a place, and removes its transaction from the holders.
 pub(crate) fn clear_held<A: Handle>(held: &mut Held<A>, holders: &mut Holders<A>, at: u16)
     ensures lists { (v : ℕ) → list_at held.new.items v ≡ (if v == at then [] else list_at held.old.items v) }
     ensures among { AreAmong held.old.items holders.old.keys → AreAmong held.new.items holders.new.keys }

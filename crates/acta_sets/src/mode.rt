@@ -3,40 +3,40 @@ ghost use Rattle.acta_sets.specs.inside.Modes as modes;
 
 use acta_table::Op;
 
-/// In which way operations on an object conflict with others: those in one mode conflict equivalent. An operation is in two
-/// modes at most, a coarse one and a fine one.
+/// The lock mode of an operation on an object. Operations in the same mode conflict with the same operations. An
+/// operation has at most two modes, a coarse one and a fine one.
 #[derive(Clone, Copy, PartialEq, Eq, Hash, Debug)]
 pub(crate) enum LockMode {
-    /// Each `read`.
+    /// Every `read`.
     Reads,
-    /// Each `write`.
+    /// Every `write`.
     Writes,
-    /// Each `write` of this value.
+    /// Every `write` of this value.
     WritesOf(i32),
-    /// Each `get`.
+    /// Every `get`.
     Gets,
-    /// Each `add` of an amount that is not 0.
+    /// Every `add` of an amount other than 0.
     Adds,
-    /// Each `size`.
+    /// Every `size`.
     Sizes,
-    /// Each `insert` and each `remove`.
+    /// Every `insert` and every `remove`.
     Changes,
-    /// Each `insert` and each `remove` of this element.
+    /// Every `insert` and every `remove` of this element.
     ChangesOf(i32),
-    /// Each `has` of this element.
+    /// Every `has` of this element.
     Tests(i32),
 }
 
-/// Who holds operations.
+/// Whose operations a mode key counts.
 #[derive(Clone, Copy, PartialEq, Eq, Hash, Debug)]
 pub(crate) enum Holder {
-    /// Whoever it is.
+    /// Those of all transactions.
     Anyone,
-    /// The transaction of this number.
+    /// Those of the transaction with this number.
     Txn(u16),
 }
 
-/// What operations are filed under: who holds them, on which object they are, and in which mode.
+/// The key under which operations are counted or listed: holder, object and mode.
 #[derive(Clone, Copy, PartialEq, Eq, Hash, Debug)]
 pub(crate) struct ModeKey {
     pub holder: Holder,
@@ -44,7 +44,7 @@ pub(crate) struct ModeKey {
     pub mode: LockMode,
 }
 
-/// The coarse mode of an operation: that of all of its sort. A `has` and an `add` of 0 have none.
+/// The coarse mode of an operation, which it shares with all of its sort. A `has` and an `add` of 0 have none.
 pub(crate) fn coarse(op: &Op) -> Option<LockMode>
     ensures { result ≡ modes.coarse op.now }
 {
@@ -65,7 +65,7 @@ pub(crate) fn coarse(op: &Op) -> Option<LockMode>
     }
 }
 
-/// The fine mode of an operation: that of those with its value. What has no value has none.
+/// The fine mode of an operation, which depends on its value. An operation without a value has none.
 pub(crate) fn fine(op: &Op) -> Option<LockMode>
     ensures { result ≡ modes.fine op.now }
 {
@@ -77,8 +77,8 @@ pub(crate) fn fine(op: &Op) -> Option<LockMode>
     }
 }
 
-/// The fine mode that an operation is listed under: nobody asks for the first `write` of a value, so these are counted
-/// and not listed.
+/// The fine mode under which an operation is listed. Writes of a value are counted but not listed, since no search
+/// needs the first.
 pub(crate) fn listed_fine(op: &Op) -> Option<LockMode>
     ensures { result ≡ modes.listed_fine op.now }
 {
@@ -89,7 +89,7 @@ pub(crate) fn listed_fine(op: &Op) -> Option<LockMode>
     }
 }
 
-// Whether both are the same mode, or none.
+// Whether the two modes are the same, or both `None`.
 fn is_same(a: Option<LockMode>, b: Option<LockMode>) -> bool
     ensures { result ≡ true → a ≡ b }
 {
@@ -100,7 +100,7 @@ fn is_same(a: Option<LockMode>, b: Option<LockMode>) -> bool
     }
 }
 
-/// Whether two operations are in the same modes.
+/// Whether two operations have the same modes.
 pub(crate) fn are_equivalent(p: &Op, q: &Op) -> bool
     ensures coarse { result ≡ true → modes.coarse p.now ≡ modes.coarse q.now }
     ensures fine { result ≡ true → modes.fine p.now ≡ modes.fine q.now }

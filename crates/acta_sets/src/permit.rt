@@ -1,6 +1,6 @@
 use acta_table::{ObjId, TxnId};
 
-/// A permit in force: `by` has permitted `to` to work on the object beside it.
+/// A permit in force: `by` has permitted `to` to work on the object.
 #[derive(Clone, Copy, PartialEq, Eq, Hash, Debug)]
 pub struct Permit {
     pub by: TxnId,

@@ -10,13 +10,13 @@ use crate::permit::Permit;
 use acta_table::{ObjId, TxnId};
 use std::alloc::{AllocError, Allocator};
 
-/// Who has permitted whom to work on an object beside it (our addition to ACTA's conflict set). Contracts see
-/// it as a list for each transaction of what it was permitted, and read that as a test of three numbers, `permitted`.
+/// The permits in force: which transaction has permitted which other to work on an object. Contracts see for each
+/// transaction the list of permits that it received, and read it by the predicate `permitted`.
 #[derive(Drop)]
 pub struct Permits<A: Allocator> {
-    // What each transaction was permitted, and by whom: all else is an index of it.
+    // The permits that each transaction received. The other field is an index of this one.
     taken: Granted<A>,
-    // What each transaction has permitted, and to whom. Where there was no memory, it may name what nobody was permitted.
+    // The permits that each transaction gave. After a failed allocation it may contain permits that are not in force.
     given: Granted<A>,
 }
 
@@ -36,7 +36,7 @@ impl<A: Allocator> std::marker::Model for Permits<A> {
 }
 
 impl<A: Allocator + Copy> Permits<A> {
-    /// Nobody has permitted anything. Takes no memory.
+    /// No permits. Allocates nothing.
     pub fn new(alloc: A) -> Permits<A>
         ensures { permitted result ≡ none_permitted }
     {
@@ -46,7 +46,7 @@ impl<A: Allocator + Copy> Permits<A> {
         }
     }
 
-    /// `h` has permitted `t` to work on the object from now on. On `Err` nothing has changed.
+    /// From now on `h` permits `t` to work on the object. On `Err` nothing changes.
     pub fn give(&mut self, h: TxnId, t: TxnId, ob: ObjId) -> Result<(), AllocError>
         ensures ok { OnOk result (permitted self.new ≡ with_permit (permitted self.old) h.0 t.0 ob.0) }
         ensures err { OnErr result (permitted self.new ≡ permitted self.old) }
@@ -64,8 +64,7 @@ impl<A: Allocator + Copy> Permits<A> {
         Ok(())
     }
 
-    /// No permit that names the transaction is left: a transaction that ends takes with it what it has permitted, and
-    /// what it was permitted. Takes no memory.
+    /// Removes all permits that the transaction gave or received, as when it ends. Allocates nothing.
     pub fn ended(&mut self, t: TxnId)
         ensures { permitted self.new ≡ without_permits (permitted self.old) t.0 }
     {
@@ -86,7 +85,7 @@ impl<A: Allocator + Copy> Permits<A> {
         granted::has(&self.taken, t.0, &taken)
     }
 
-    /// Who has permitted `t` to work on the object, ascending.
+    /// The transactions that have permitted `t` to work on the object, ascending.
     pub fn permitters(&self, t: TxnId, ob: ObjId) -> Result<Vec<TxnId, A>, AllocError>
         ensures ascending { IfOk result (λ hs. IsStrictlySortedBy txn_cmp hs.items) }
         ensures named { IfOk result (λ hs. (h : TxnId) → is_among hs.items h ≡ permitted self.now h.0 t.0 ob.0) }
@@ -94,7 +93,7 @@ impl<A: Allocator + Copy> Permits<A> {
         granted::partners(&self.taken, t.0, ob)
     }
 
-    /// What `t` was permitted: the objects, each with who has permitted it, ascending.
+    /// The permits that `t` received, each as the object and the permitting transaction, ascending.
     pub fn given_to(&self, t: TxnId) -> Result<Vec<Grant, A>, AllocError>
         ensures ascending { IfOk result (λ grants. IsStrictlySortedBy grant_cmp grants.items) }
         ensures given { IfOk result (λ grants. (h object : ℕ) → has_grant grants.items object h ≡ permitted self.now h t.0 object) }
@@ -102,7 +101,7 @@ impl<A: Allocator + Copy> Permits<A> {
         granted::list_of(&self.taken, t.0)
     }
 
-    /// All permits in force, each once: ascending by who was permitted, then by object, then by who has permitted it.
+    /// All permits in force, each once, ordered by receiver, then by object, then by giver.
     pub fn listed(&self) -> Result<Vec<Permit, A>, AllocError>
         ensures ascending { IfOk result (λ list. IsStrictlySortedBy permit_cmp list.items) }
         ensures listed { IfOk result (λ list. (h t object : ℕ) → is_listed list.items h t object ≡ permitted self.now h t object) }
@@ -110,7 +109,7 @@ impl<A: Allocator + Copy> Permits<A> {
         granted::permits(&self.taken)
     }
 
-    /// The same permits, in memory of their own.
+    /// Returns a copy of the permits.
     pub fn copy(&self) -> Result<Permits<A>, AllocError>
         ensures { IfOk result (λ p. p ≡ self.now) }
     {

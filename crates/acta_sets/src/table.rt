@@ -23,17 +23,16 @@ use acta_table::{Fate, MOST_EVENTS, ObjId, Op, OpNo, OpSet, TxnId};
 use std::alloc::{AllocError, Allocator};
 use std::collections::BTreeSet;
 
-/// The operations of a history, with who holds each and what became of it: at most `MOST_EVENTS`.
-/// Contracts see the list of them, in the order in which they were added. The first has the
-/// number 1.
+/// The operations of a history, at most `MOST_EVENTS`, with their holders and fates. Contracts see them as a list in
+/// the order in which they were added, numbered from 1.
 #[derive(Drop)]
 pub struct OpTable<A: Handle> {
-    // The list, of which all else is an index.
+    // The list; all other fields are indexes of it.
     items: Vec<HeldOp, A>,
     held: Held<A>,
     holders: Holders<A>,
     counts: Counts<A>,
-    // The operations in each coarse mode, and in each fine one that is looked up.
+    // The operations in each coarse mode, and in each fine mode that is searched.
     coarse: ModeLists<A>,
     fine: ModeLists<A>,
 }
@@ -51,7 +50,7 @@ impl<A: Handle> std::marker::Model for OpTable<A> {
 }
 
 impl<A: Handle> OpTable<A> {
-    /// No operation. Takes no memory.
+    /// The empty table. Allocates nothing.
     pub fn new(alloc: A) -> OpTable<A>
         ensures { result ≡ [] }
     {
@@ -65,8 +64,7 @@ impl<A: Handle> OpTable<A> {
         }
     }
 
-    /// The operations, in the order in which they were added: at most `MOST_EVENTS`. The first has the
-    /// number 1.
+    /// The operations in the order in which they were added, at most `MOST_EVENTS`, numbered from 1.
     pub fn operations(&self) -> &[HeldOp]
         ensures operations { result.now ≡ self.now }
         ensures few { length self.now ≤ MOST_EVENTS }
@@ -74,7 +72,7 @@ impl<A: Handle> OpTable<A> {
         self.items.as_slice()
     }
 
-    /// The operation of this number; nothing where there is none. There is no number 0.
+    /// The operation with this number, from 1, or `None` if there is none.
     pub fn operation(&self, op: OpNo) -> Option<HeldOp>
         ensures { result ≡ operation_at self.now op.0 }
     {
@@ -84,8 +82,8 @@ impl<A: Handle> OpTable<A> {
         self.items.get(op.0 as usize - 1).copied()
     }
 
-    /// Adds an operation in progress, which `t` holds: whoever invokes an operation is responsible for it at first.
-    /// Answers its number, one more than there were operations, fewer than `MOST_EVENTS`. On `Err` none is added.
+    /// Adds an operation in progress, held by `t`, and returns its number: one more than there were operations. There
+    /// must be fewer than `MOST_EVENTS`. On `Err` none is added.
     pub fn add(&mut self, t: TxnId, ob: ObjId, op: Op) -> Result<OpNo, AllocError>
         requires { length self.old < MOST_EVENTS }
         ensures number { IfOk result (λ number. number.0 ≡ length self.old + 1) }
@@ -114,14 +112,14 @@ impl<A: Handle> OpTable<A> {
         Ok(OpNo(number))
     }
 
-    /// The numbers of the operations that the transaction holds in progress, ascending.
+    /// The access set of the transaction: the numbers of the operations that it holds in progress, ascending.
     pub fn held(&self, t: TxnId) -> &[u32]
         ensures { result.now ≡ numbers_where (is_held t.0) self.now }
     {
         list_of(&self.held, t.0)
     }
 
-    /// From now on `u` holds those of the named operations that `from` holds in progress. On `Err` none is handed on.
+    /// Transfers to `u` those of the named operations that `from` holds in progress. On `Err` none is transferred.
     pub fn transfer(&mut self, from: TxnId, ops: &OpSet<A>, u: TxnId) -> Result<(), AllocError>
         ensures transferred { OnOk result (self.new ≡ transferred_of from.0 ops.now u self.old) }
         ensures err { OnErr result (self.new ≡ self.old) }
@@ -137,7 +135,7 @@ impl<A: Handle> OpTable<A> {
         Ok(())
     }
 
-    /// From now on `u` holds the named operations, which `from` holds in progress. On `Err` none is moved.
+    /// Transfers to `u` the named operations, all of which `from` holds in progress. On `Err` none is transferred.
     pub fn move_to(&mut self, from: TxnId, ops: &OpSet<A>, u: TxnId) -> Result<(), AllocError>
         requires { are_held from.0 ops.now self.old ≡ true }
         ensures moved { OnOk result (self.new ≡ moved ops.now u self.old) }
@@ -146,7 +144,7 @@ impl<A: Handle> OpTable<A> {
         self.transfer(from, ops, u)
     }
 
-    /// From now on `u` holds all that `t` holds in progress. On `Err` nothing is handed on.
+    /// Transfers to `u` all operations that `t` holds in progress. On `Err` none is transferred.
     pub fn transfer_all(&mut self, t: TxnId, u: TxnId) -> Result<(), AllocError>
         ensures transferred { OnOk result (self.new ≡ transferred t.0 u self.old) }
         ensures err { OnErr result (self.new ≡ self.old) }
@@ -162,7 +160,7 @@ impl<A: Handle> OpTable<A> {
         Ok(())
     }
 
-    /// All that `t` holds in progress gets this fate, which is committed or aborted. Takes no memory.
+    /// Gives all operations that `t` holds in progress this fate, committed or aborted. Allocates nothing.
     pub fn end_all(&mut self, t: TxnId, fate: Fate)
         requires { is_open fate ≡ false }
         ensures { self.new ≡ ended t.0 fate self.old }
@@ -184,27 +182,25 @@ impl<A: Handle> OpTable<A> {
     }
 }
 
-// Which operations stand against another.
+// Which operations conflict with a given one.
 impl<A: Handle> OpTable<A> {
-    /// Whether the transaction holds an operation in progress, on the object, that conflicts with the operation.
+    /// Whether the transaction holds an operation in progress on the object that conflicts with the operation.
     pub fn is_held_against(&self, t: TxnId, ob: ObjId, op: &Op) -> bool
         ensures { result ≡ list_any (is_held_against t.0 ob.0 op.now) self.now }
     {
         counts::number_against(&self.counts, Holder::Txn(t.0), ob.0, op) > 0
     }
 
-    /// Whether an operation in progress, on the object, held neither by the transaction nor by one of those that it
-    /// exempts on that object, conflicts with the operation. It exempts its ancestors, and those who have permitted it to
-    /// work on the object.
+    /// Whether an operation in progress on the object conflicts with the operation. Operations held by `t` or by a
+    /// transaction in `exempts` (ancestors and givers of permits) do not count.
     pub fn has_conflict(&self, t: TxnId, exempts: &BTreeSet<u16, A>, ob: ObjId, op: &Op) -> bool
         ensures { result ≡ list_any (is_against t.0 exempts.now.keys ob.0 op.now) self.now }
     {
         counts::others_against(&self.counts, t, exempts, ob, op) > 0
     }
 
-    /// The number of the first operation in progress, on the object, held neither by the transaction nor by one of
-    /// those that it exempts on that object, that conflicts with the operation. It exempts its ancestors, and those who
-    /// have permitted it to work on the object.
+    /// The number of the first operation in progress on the object that conflicts with the operation. Operations held
+    /// by `t` or by a transaction in `exempts` do not count.
     pub fn first_conflict(
         &self,
         t: TxnId,
@@ -230,10 +226,10 @@ impl<A: Handle> OpTable<A> {
     }
 }
 
-// Who stands against an operation.
+// Which transactions hold conflicting operations.
 impl<A: Handle> OpTable<A> {
-    // Whether the one of this number is another than the transaction and than those that it exempts on the object, and
-    // holds an operation in progress there that conflicts with the operation.
+    // Whether the transaction with this number is a conflicting holder: neither the transaction itself nor exempt on
+    // the object, and holding an operation in progress there that conflicts with the operation.
     fn is_conflicting_holder(
         &self,
         t: TxnId,
@@ -247,7 +243,7 @@ impl<A: Handle> OpTable<A> {
         number != t.0 && !exempts.contains(&number) && self.is_held_against(TxnId(number), ob, op)
     }
 
-    // Those of the holders who are.
+    // The conflicting holders among these.
     fn conflicting_holders(
         &self,
         t: TxnId,
@@ -266,8 +262,8 @@ impl<A: Handle> OpTable<A> {
         Ok(numbers)
     }
 
-    /// Who holds the operations in progress, on the object, that conflict with the operation, but for the transaction
-    /// and those that it exempts on that object: its ancestors, and those who have permitted it to work on the object.
+    /// The conflicting holders: those that hold an operation in progress on the object that conflicts with the
+    /// operation, except `t` and the transactions in `exempts`.
     pub fn holders_against(
         &self,
         t: TxnId,
@@ -305,9 +301,8 @@ impl<A: Handle> OpTable<A> {
         first_unnamed(list_of(&self.held, t.0), ops)
     }
 
-    /// The operations in progress that are held neither by `t` nor by one of these ancestors of it, nor by one who has
-    /// permitted `t` to work on the operation's object, by number, ascending. With no ancestor and no permit all others
-    /// count.
+    /// The conflict set of `t`, by number, ascending: operations in progress held neither by `t`, nor by one of these
+    /// ancestors, nor by a transaction that has permitted `t` to work on the operation's object.
     pub fn conflict_set(
         &self,
         t: TxnId,
@@ -323,14 +318,14 @@ impl<A: Handle> OpTable<A> {
         )
     }
 
-    /// The operations that are not aborted, by number, ascending.
+    /// The view: the operations that are not aborted, by number, ascending.
     pub fn view_set(&self) -> Result<Vec<OpNo, A>, AllocError>
         ensures { IfOk result (λ ops. ops.items ≡ view_set self.now) }
     {
         selected(self.allocator(), Selection::View, self.operations())
     }
 
-    /// The same operations, in memory of their own.
+    /// Returns a copy of the table.
     pub fn copy(&self) -> Result<OpTable<A>, AllocError>
         ensures { IfOk result (λ table. table ≡ self.now) }
     {

@@ -1,2 +1,2 @@
-pub mod Said
+pub mod CommandReplies
 pub mod Sessions

@@ -1,16 +1,16 @@
-//! What the words of a command line of `shell` ask for.
+//! The command line of `shell`.
 
 use acta_args::{CommandLine, ModelName, UsageFault, model_arg, model_named};
 use clap::{ArgMatches, Command};
 use std::alloc::{AllocError, Global};
 
-/// What a command line asks for: a session on a model.
+/// A parsed command line: it asks for a session on a model.
 #[derive(Clone, Copy, PartialEq, Eq, Debug)]
 pub struct Asked<'a> {
     pub model: ModelName<'a>,
 }
 
-// What the matches ask for.
+// Converts the matches.
 fn asked_by<'a>(matches: &ArgMatches<'a>) -> Result<Asked<'a>, UsageFault> {
     match model_named(matches.get_str("MODEL").unwrap_or("@")) {
         Some(model) => Ok(Asked { model }),

@@ -2,7 +2,7 @@
 
 ghost use Rattle.std.specs.Prelude.{◌≡◌, IfOk};
 ghost use Rattle.std.specs.Io.{StartsWith};
-ghost use Rattle.acta_shell.specs.Said.{form_of, help_front};
+ghost use Rattle.acta_shell.specs.CommandReplies.{form_of, help_front};
 
 use acta_explain::{Prose, put};
 use acta_machine::Handle;
@@ -10,7 +10,7 @@ use acta_script::{CAN_FORM, EVENT_KINDS, ShellKind, Topic, event_form};
 use acta_table::EventKind;
 use std::alloc::{AllocError, Allocator};
 
-// What a line does, and a line that does it.
+// The meaning of a line, and an example.
 type Entry = (&'static str, &'static str);
 
 // The command `can`.
@@ -44,7 +44,7 @@ fn command_words(kind: ShellKind) -> &'static str {
     }
 }
 
-// A line with the command.
+// An example of the command.
 fn command_example(kind: ShellKind) -> &'static str {
     match kind {
         ShellKind::Undo => "undo 2",
@@ -69,12 +69,12 @@ fn command_example(kind: ShellKind) -> &'static str {
     }
 }
 
-// What a command does, and a line with it.
+// The meaning of a command, and an example.
 fn command_entry(kind: ShellKind) -> Entry {
     (command_words(kind), command_example(kind))
 }
 
-// What an event of the kind is.
+// The meaning of an event of the kind, and an example.
 fn event_entry(kind: EventKind) -> Entry {
     match kind {
         EventKind::Begin => ("T begins, as a transaction of a class", "begin 1 part"),
@@ -102,17 +102,17 @@ fn event_entry(kind: EventKind) -> Entry {
     }
 }
 
-// How far in the words stand after a form.
+// The width of the column of forms.
 const FORM_WIDTH: usize = 22;
 
-// Adds a form and what it does, as a line of a list.
+// Adds a form and its meaning, as a line of a list.
 fn put_listed<A: Handle>(prose: Prose<A>, form: &str, entry: Entry) -> Prose<A> {
     let (words, _) = entry;
     let prose = put!(prose; "  ", form).pad(FORM_WIDTH.saturating_sub(form.len()));
     put!(prose; words, "\n")
 }
 
-// Adds what a line does, and an example.
+// Adds the meaning of a line, and an example.
 fn put_alone<A: Handle>(prose: Prose<A>, entry: Entry) -> Prose<A> {
     let (words, example) = entry;
     put!(prose; words, "\nfor example `", example, "`\n")
@@ -131,7 +131,7 @@ fn put_all<A: Handle>(prose: Prose<A>) -> Prose<A> {
     prose.put("`help WORD` explains the line that begins with the word\n")
 }
 
-// What follows the front of the help. An event has no verb of its own.
+// The help after its first part. An event has no verb of its own.
 fn help_rest<A: Handle>(alloc: A, topic: Option<Topic>) -> Prose<A> {
     let prose = Prose::new(alloc);
     match topic {
@@ -153,7 +153,7 @@ fn form_of(topic: Topic) -> &'static str
     }
 }
 
-// How the help begins: with the form of the line, or with the list of events.
+// The first part of the help: the form of the line, or the list of events.
 fn help_front<A: Allocator>(alloc: A, topic: Option<Topic>) -> Result<Vec<u8, A>, AllocError>
     ensures { IfOk result (λ text. text.items ≡ help_front topic) }
 {
@@ -169,7 +169,7 @@ fn help_front<A: Allocator>(alloc: A, topic: Option<Topic>) -> Result<Vec<u8, A>
     Ok(text)
 }
 
-/// All lines of a session, or one of them with an example.
+/// The help on all lines of a session, or on one of them.
 pub(crate) fn help_text<A: Handle>(alloc: A, topic: Option<Topic>) -> Result<Vec<u8, A>, AllocError>
     ensures { IfOk result (λ text. StartsWith text.items (help_front topic)) }
 {

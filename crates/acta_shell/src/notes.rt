@@ -1,15 +1,15 @@
-//! What the words of replies refer to: the events that were admitted, and those that were refused.
+//! The events to which replies refer: the admitted and the refused ones.
 
 use acta_explain::{LineIndex, MOST_RENDERED, StepText};
 use acta_machine::{Handle, Machine};
 use acta_trace::{Step, Steps};
 use std::alloc::AllocError;
 
-// How many edges are looked at for transactions that wait for one another, in all refusals of a session, so that a session with
-// many edges and many refusals isn't slow.
+// How many edges all refusals of a session may visit in searches for transactions that wait for each other, so that a
+// session with many edges and many refusals isn't slow.
 const MOST_LOOKS: usize = 2_000_000;
 
-/// The events that were admitted, with those that were taken back and can be done again, and the first refusals.
+/// The admitted events, with those that were undone and can be redone, and the first refusals.
 #[derive(Drop)]
 pub(crate) struct Notes<A: Handle> {
     alloc: A,
@@ -36,8 +36,8 @@ impl<A: Handle> Notes<A> {
         self.alloc
     }
 
-    /// The events of the machine's history, to which sentences refer. Those that were taken back have no text here, so that no
-    /// sentence names them.
+    /// The events of the machine's history, to which sentences refer. Undone events are left out, so that no sentence names
+    /// them.
     pub(crate) fn lines<'a>(&'a self, machine: &'a Machine<A>) -> LineIndex<'a, A> {
         let texts = self.texts.as_slice();
         LineIndex {
@@ -48,8 +48,7 @@ impl<A: Handle> Notes<A> {
         }
     }
 
-    /// Notes an event that was admitted, with its line. The events that were taken back before it can't be done again, and are
-    /// forgotten.
+    /// Notes an admitted event, with its line. Events that were undone before it can't be redone, and are forgotten.
     pub(crate) fn admit(&mut self, step: Step<A>, event: String<A>) -> Result<(), AllocError> {
         let before = step.line.saturating_sub(1);
         self.steps.truncate(before);
@@ -59,7 +58,7 @@ impl<A: Handle> Notes<A> {
         self.steps.push(step)
     }
 
-    /// Notes an event that was refused, with its line and the reason. Only the first `MOST_RENDERED` reasons are kept.
+    /// Notes a refused event, with its line and the reason. Only the first `MOST_RENDERED` reasons are kept.
     pub(crate) fn refuse(&mut self, event: String<A>, reason: String<A>) -> Result<(), AllocError> {
         if self.refusals.len() < MOST_RENDERED {
             self.refusals.push(StepText { event, reason })?;
@@ -67,12 +66,12 @@ impl<A: Handle> Notes<A> {
         Ok(())
     }
 
-    /// The refused event of this number, from 1, if its reason is kept.
+    /// The refused event with this number, from 1, if its reason is kept.
     pub(crate) fn refusal(&self, number: usize) -> Option<&StepText<A>> {
         self.refusals.get(number.checked_sub(1)?)
     }
 
-    /// Whether so many edges may still be looked at for a refusal. They are counted.
+    /// Whether a refusal may still visit this many edges. Counts them.
     pub(crate) fn may_look(&mut self, edges: usize) -> bool {
         let may = edges <= self.looks_left;
         self.looks_left = self.looks_left.saturating_sub(edges);

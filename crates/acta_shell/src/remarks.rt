@@ -1,4 +1,4 @@
-//! The remarks below the lines that answer a command: the same in words, with the events to which it goes back.
+//! The remarks below the lines that answer a command: the same in words, with the events that caused it.
 
 use crate::notes::Notes;
 use acta_explain::{
@@ -13,7 +13,7 @@ use acta_table::{OpNo, Owed, TxnId};
 use acta_trace::is_edge_of;
 use std::alloc::AllocError;
 
-// Adds how a transaction stands, its class, its parent, and the event that began it.
+// Adds the status of a transaction, its class, its parent, and the event that began it.
 fn put_txn<A: Handle>(
     prose: Prose<A>,
     lines: LineIndex<'_, A>,
@@ -35,7 +35,7 @@ fn put_txn<A: Handle>(
     }
 }
 
-/// How a transaction stands.
+/// The status of a transaction, in words.
 pub(crate) fn status_remark<A: Handle>(
     notes: &Notes<A>,
     machine: &Machine<A>,
@@ -122,7 +122,7 @@ pub(crate) fn edges_remark<A: Handle>(
     prose
 }
 
-// Adds a debt with its edge, and whether it can be paid. `lost` is what `never_begin` says of the machine.
+// Adds a debt with its edge, and whether it can be paid. `lost` is the result of `never_begin` for the machine.
 fn put_debt<A: Handle>(
     prose: Prose<A>,
     notes: &Notes<A>,
@@ -137,7 +137,7 @@ fn put_debt<A: Handle>(
     put_prospect(prose, machine, lines, lost, owed.txn, owed.missing).put("\n")
 }
 
-/// The events that are owed, each with its edge, and whether it can be paid.
+/// The debts, each with its edge, and whether it can be paid.
 pub(crate) fn owed_remark<A: Handle>(notes: &Notes<A>, machine: &Machine<A>) -> Prose<A> {
     let alloc = notes.allocator();
     let mut prose = Prose::new(alloc);

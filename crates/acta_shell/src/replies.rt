@@ -44,10 +44,10 @@ fn put_value<A: Handle>(
     }
 }
 
-// The values of sets are shown in histories of at most so many operations: no set has more elements then.
+// Values of sets are shown only in histories of at most this many operations, since no set has more elements then.
 const MOST_FOR_SETS: usize = 1_000;
 
-// Whether the value is shown after an operation that returned this, as the last of so many: whether it has changed.
+// Whether the value is shown after an operation with this return, the last of `operations`: whether it has changed.
 fn shows_value(op: Op, ret: Ret, operations: usize) -> bool {
     match op {
         Op::Write(_) | Op::Add(_) => true,
@@ -77,7 +77,7 @@ fn put_change<A: Handle>(
     }
 }
 
-// The step of an event that was admitted.
+// The step of an admitted event.
 fn step_of<A: Handle>(
     machine: &Machine<A>,
     before: Before,
@@ -99,7 +99,7 @@ fn step_of<A: Handle>(
     }
 }
 
-/// What stands beside the answer to an event that was admitted. The event is noted, with its text.
+/// The words beside the answer to an admitted event. Notes the event with its text.
 pub(crate) fn admitted_text<A: Handle>(
     notes: &mut Notes<A>,
     machine: &Machine<A>,
@@ -115,7 +115,7 @@ pub(crate) fn admitted_text<A: Handle>(
     remark_of(change, Prose::new(alloc))
 }
 
-// Why the machine refuses an event, in lines; nothing if it would admit it.
+// Why the machine refuses an event, in lines; empty if it would admit it.
 fn reason_text<'a, A: Handle>(
     notes: &'a mut Notes<A>,
     machine: &'a Machine<A>,
@@ -134,7 +134,7 @@ fn reason_text<'a, A: Handle>(
     }
 }
 
-/// What stands below the answer to an event that was refused. The event is noted, with its text and the reason.
+/// The words below the answer to a refused event. Notes the event with its text and the reason.
 pub(crate) fn refused_text<A: Handle>(
     notes: &mut Notes<A>,
     machine: &Machine<A>,
@@ -147,7 +147,7 @@ pub(crate) fn refused_text<A: Handle>(
     remark_of(Prose::new(notes.allocator()), below)
 }
 
-/// What stands below the answer that the machine would give to an event.
+/// The words below the answer that the machine would give to an event.
 pub(crate) fn question_text<A: Handle>(
     notes: &mut Notes<A>,
     machine: &Machine<A>,
@@ -158,7 +158,7 @@ pub(crate) fn question_text<A: Handle>(
     remark_of(Prose::new(alloc), Prose::new(alloc).put(reason.as_str()))
 }
 
-// What the line should have been: after the word `can` an event, and otherwise any line of a session.
+// The form that the line should have: an event after the word `can`, otherwise any line of a session.
 fn form_of(line: &[u8], found: Diagnostic) -> LineForm {
     let first = match word_span(line, 0) {
         Some(span) => line.get(span.from..span.to),
@@ -170,7 +170,7 @@ fn form_of(line: &[u8], found: Diagnostic) -> LineForm {
     }
 }
 
-// What is wrong with a faulty line, after the name of its fault, and below that what is expected.
+// The description of a faulty line after the name of its fault, and below it what is expected.
 fn worded<A: Handle>(
     alloc: A,
     fault: LineFault,
@@ -185,7 +185,7 @@ fn worded<A: Handle>(
     )
 }
 
-// What is wrong with a faulty line and where.
+// The description of a faulty line, with the place of the fault.
 fn wrong_remark<A: Handle>(
     alloc: A,
     model: &Model<A>,
@@ -215,7 +215,7 @@ pub(crate) fn fault_remark<A: Handle>(
     wrong_remark(alloc, model, &stop, found)
 }
 
-// The remark on a faulty line of programs with several alternatives, or where no word was found to be wrong.
+// The remark on a faulty line of programs with several alternatives, or without a known wrong word.
 fn plain_remark<A: Handle>(alloc: A, fault: LineFault) -> Result<Remark<Vec<u8, A>>, AllocError> {
     remark_of(
         Prose::new(alloc).put("in a line of programs (nothing was done)"),
@@ -223,7 +223,7 @@ fn plain_remark<A: Handle>(alloc: A, fault: LineFault) -> Result<Remark<Vec<u8, 
     )
 }
 
-// The remark on a faulty line of programs, where one is found.
+// The remark on a faulty line of programs with a known wrong word.
 fn seated_remark<A: Handle>(
     alloc: A,
     model: &Model<A>,
@@ -247,7 +247,7 @@ fn seated_remark<A: Handle>(
     }
 }
 
-/// The remark on a faulty line of programs. Where the line has several alternatives, it says no place.
+/// The remark on a faulty line of programs. If the line has several alternatives, the remark names no place.
 pub(crate) fn program_fault_remark<A: Handle>(
     alloc: A,
     model: &Model<A>,

@@ -15,7 +15,7 @@ use acta_table::Model;
 use std::alloc::AllocError;
 use std::io;
 
-/// A console that notes whether its input has ended.
+/// A console that records whether its input has ended.
 #[derive(Drop)]
 pub struct NotingEnd<C: Console> {
     inner: C,
@@ -52,10 +52,10 @@ impl<C: Console> Console for NotingEnd<C> {
     ghost further = { λ c d e xs ys one two. C.further c.inner d.inner e.inner xs ys one two };
 }
 
-// What a terminal shows where a line can be typed.
+// The prompt of a terminal.
 const PROMPT: &str = "> ";
 
-// What a terminal shows first: the model, how to begin, and the prompt.
+// The first output on a terminal: the model, how to begin, and the prompt.
 fn greeting<A: Handle>(
     alloc: A,
     name: ModelName<'_>,
@@ -68,12 +68,12 @@ fn greeting<A: Handle>(
     put!(prose; ". Events or commands; `help` lists them.\n", PROMPT).done()
 }
 
-// Adds how many there are.
+// Adds a number with its noun, singular or plural.
 fn put_count<A: Handle>(prose: Prose<A>, count: usize, one: &str, more: &str) -> Prose<A> {
     put!(prose; count, " ", if count == 1 { one } else { more })
 }
 
-// Shows this, and ends so if that works.
+// Shows these bytes, and returns this outcome if that works.
 fn show<C: Console>(console: &mut C, bytes: &[u8], ended: Outcome) -> Outcome
     ensures { result ≡ Done → ended ≡ Done }
 {
@@ -115,7 +115,8 @@ fn answer<A: Handle, C: Console>(
     }
 }
 
-// Greets, and answers the lines of a terminal. Where its input ends, what the terminal shows next is on a line of its own.
+// Greets, and answers the lines of a terminal. If its input ends, ends the line, so that the terminal's next output is on a
+// line of its own.
 fn answer_terminal<A: Handle, C: Console>(
     alloc: A,
     name: ModelName<'_>,
@@ -136,9 +137,9 @@ fn answer_terminal<A: Handle, C: Console>(
     }
 }
 
-/// Answers each line of the console at once, on the model of these bytes and this name, until a line or the end of the input ends
-/// the session. A terminal gets a greeting and a prompt. `Refused` if the bytes mean no model, which is shown; `Unread` and
-/// `Unwritten` as `converse` has them.
+/// Answers each line of the console at once, on the model of these bytes and this name, until a line or the end of the input
+/// ends the session. A terminal gets a greeting and a prompt. Returns `Refused` if the bytes are not a model, after showing
+/// that, and `Unread` and `Unwritten` as `converse` does.
 pub fn shell_tool<A: Handle, C: Console>(
     alloc: A,
     name: ModelName<'_>,

@@ -19,17 +19,17 @@ use acta_table::{Answer, Event, Model};
 use acta_trace::push_event_lines;
 use std::alloc::AllocError;
 
-/// The words of a session: those of `explain`, `draw` and `explore`, with the events of the session in place of the lines
-/// of an input.
+/// The words of a session: those of `explain`, `draw` and `explore`, with the events of the session in place of the lines of
+/// an input.
 #[derive(Drop)]
 pub struct ShellWords<A: Handle> {
     notes: Notes<A>,
-    // Where pictures are shown.
+    // The screen on which pictures are shown.
     screen: Screen,
 }
 
 impl<A: Handle> ShellWords<A> {
-    /// The words of a session before its first line, whose pictures are drawn for this screen.
+    /// The words of a session before its first line, with pictures for this screen.
     pub fn new(alloc: A, screen: Screen) -> ShellWords<A> {
         ShellWords {
             notes: Notes::new(alloc),
@@ -37,7 +37,7 @@ impl<A: Handle> ShellWords<A> {
         }
     }
 
-    // What stands below the lines of a command.
+    // The words below the lines of a command.
     fn state_text(&self, machine: &Machine<A>, command: ShellCommand) -> Prose<A> {
         let notes = &self.notes;
         match command {

@@ -1,4 +1,4 @@
--- Numbers that are put into an ordered set one by one: what is in it.
+-- What an ordered set contains after numbers were inserted one by one.
 use Rattle.std.proofs.Common.{◌≡◌, ℕ, Bool, true, false, ◌&&◌, ◌||◌, ◌==◌, List, [], ◌∷◌, map, filter, fold, refl, sym, ap, ◌∙◌, inl, inr, Ordering, Less, Equal, Greater, ◌≢◌}
 use Rattle.std.specs.Prelude.{if◌then◌else◌}
 use Rattle.std.specs.List.{list_any}
@@ -19,13 +19,13 @@ once : (a b : Bool) → (a || b) ≡ (a || (a || b))
 once true b = refl
 once false b = refl
 
--- with one more in the set, where it is known how the number compares with the first, and what comes of the rest
+-- one more insertion, by how the number compares with the first, given the result for the rest
 inserted-by : (test : ℕ → Bool) (x k : ℕ) (xs rest : List ℕ) (order : Ordering) → nat_cmp k x ≡ order → list_any test rest ≡ (test k || list_any test xs) → list_any test (match_ordering order (k ∷ x ∷ xs) (x ∷ xs) (x ∷ rest)) ≡ (test k || (test x || list_any test xs))
 inserted-by test x k xs rest Less is later = refl
 inserted-by test x k xs rest Equal is later = once (test x) (list_any test xs) ∙ ap (λ y. test y || (test x || list_any test xs)) (sym (exact_unsigned k x is))
 inserted-by test x k xs rest Greater is later = ap (λ b. test x || b) later ∙ swapped (test x) (test k) (list_any test xs)
 
--- one passes, with one more in the set
+-- whether a number of the set passes, after one more insertion
 pub any-inserted : (test : ℕ → Bool) (keys : List ℕ) (k : ℕ) → list_any test (insert_key nat_cmp keys k) ≡ (test k || list_any test keys)
 any-inserted test [] k = refl
 any-inserted test (x ∷ xs) k = inserted-by test x k xs (insert_key nat_cmp xs k) (nat_cmp k x) refl (any-inserted test xs k)
@@ -55,7 +55,7 @@ at-other u n Less is other = refl
 at-other u n Equal is other = absurd (other (sym (exact_unsigned u n is)))
 at-other u n Greater is other = refl
 
--- whether two numbers are one, by comparing
+-- whether two numbers are equal, by comparing
 pub at-number : (u n : ℕ) → is_at (nat_cmp u) n ≡ (n == u)
 at-number u n =
     elim (cases_eq n u) [
@@ -63,12 +63,12 @@ at-number u n =
       | inr ne ↦ at-other u n (nat_cmp u n) refl ne ∙ sym (ne_eqb n u ne)
     ]
 
--- whether a number is among some, by comparing
+-- whether a number is in a list, by comparing
 pub any-number : (u : ℕ) (ns : List ℕ) → list_any (is_at (nat_cmp u)) ns ≡ list_any (λ n. n == u) ns
 any-number u [] = refl
 any-number u (n ∷ ns) = (λ i. at-number u n i || any-number u ns i)
 
--- whether a number is in the set of some is whether it is among them
+-- a number is in the set of some numbers exactly if it is among them
 pub in-ascending : (u : ℕ) (ns : List ℕ) → list_any (is_at (nat_cmp u)) (ascending ns) ≡ list_any (λ n. n == u) ns
 in-ascending u ns = any-ascending (is_at (nat_cmp u)) ns ∙ any-number u ns
 
@@ -91,11 +91,11 @@ any-shown test show u (x ∷ xs) = of (test x) ∙ ap (λ b. ((show x == u) && t
     of true = ap (λ a. a || others) (passes (show x == u))
     of false = ap (λ a. a || others) (fails (show x == u))
 
--- whether a number is in the set of those that pass is whether one that passes shows it
+-- a number is in the set made from the passing items exactly if a passing item shows it
 pub in-passing : {X : Type 0} (test : X → Bool) (show : X → ℕ) (u : ℕ) (xs : List X) → list_any (is_at (nat_cmp u)) (ascending (map show (filter test xs))) ≡ list_any (λ x. (show x == u) && test x) xs
 in-passing test show u xs = in-ascending u (map show (filter test xs)) ∙ any-shown test show u xs
 
--- with one more put in where it passes, what is left has one less
+-- inserting an item's number if it passes leaves one item less to insert
 pub one-put : {X : Type 0} (test : X → Bool) (show : X → ℕ) (keys : List ℕ) (x : X) (xs : List X) →
     fold (insert_key nat_cmp) (if test x then insert_key nat_cmp keys (show x) else keys) (map show (filter test xs)) ≡ fold (insert_key nat_cmp) keys (map show (filter test (x ∷ xs)))
 one-put test show keys x xs = of (test x)

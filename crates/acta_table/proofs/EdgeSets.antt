@@ -1,4 +1,4 @@
--- Edges in a set that keeps the order of insertion.
+-- Edges in a set that preserves the order of insertion.
 use Rattle.std.proofs.Common.{if◌then◌else◌, ◌≡◌, Bool, true, false, ◌&&◌, ◌==◌, List, [], ◌∷◌, ◌++◌, refl, ap, ◌∙◌}
 use Rattle.std.specs.List.{list_any}
 use denote.Enum.Bare.{sameb}
@@ -12,7 +12,7 @@ use Rattle.acta_table.specs.declared.dep.Edge.{Edge}
 use Rattle.acta_table.specs.Dependencies.{code_of}
 use Rattle.acta_table.specs.Edges.{same_kind, same_edge, is_among, with_edge}
 
--- the code of a kind is the place of its variant
+-- the code of a kind is the position of its variant
 pub tagged : (k : Dep) → tag_of the_type k ≡ code_of k
 tagged Cd = refl
 tagged Scd = refl
@@ -38,7 +38,7 @@ in_turn false b c = refl
 edges-same : (e f : Edge) → (eq-value).it e f ≡ same_edge e f
 edges-same e f = ap (λ b. b && ((e.j.0 == f.j.0) && (e.i.0 == f.i.0))) (kinds-same e.kind f.kind) ∙ in_turn (same_kind e.kind f.kind) (e.j.0 == f.j.0) (e.i.0 == f.i.0)
 
--- what the set has with one more
+-- membership after one more insertion
 pub form-edge : (es : List Edge) (e : Edge) → (if list_any ((eq-value).it e) es then es else es ++ e ∷ []) ≡ with_edge es e
 form-edge es e i = if list_any (λ f. edges-same e f i) es then es else es ++ e ∷ []
 

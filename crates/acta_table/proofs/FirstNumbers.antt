@@ -1,4 +1,4 @@
--- What is known of a number that was found in a list: the item of that number is there.
+-- A number that was found in a list has an item, which passes the test.
 use Rattle.std.proofs.Common.{◌≡◌, ℕ, zero, suc, ◌+◌, ◌-◌, ◌<◌, ◌≤◌, Bool, true, false, cond, min, List, [], ◌∷◌, length, filter, find, slice_get, if◌then◌else◌, Option, Some, None, refl, sym, ap, ◌∙◌, subst, inl, inr, arith}
 use Rattle.std.specs.List.{position_from}
 use Rattle.std.specs.Option.{option_map_or}
@@ -28,7 +28,7 @@ there-from : {X : Type 0} (test : X → Bool) (k n : ℕ) (xs : List X) → posi
 there-from test k n [] e = absurd (none-some e)
 there-from test k n (x ∷ xs) e = there-by (test x) k n (length xs) (position_from test (k + 1) xs) (there-from test (k + 1) n xs) e
 
--- the first that passes is there
+-- the first item that passes exists
 pub first-there : {X : Type 0} (test : X → Bool) (xs : List X) (n : ℕ) → first_number test xs ≡ Some n → item_at xs n ≡ None → ⊥
 first-there test xs n e = let (some, within) = there-from test 1 n xs e in item-within xs n some within
 
@@ -44,7 +44,7 @@ listed-from : {X : Type 0} (p : ℕ → Bool) (test : X → Bool) (k n : ℕ) (x
 listed-from p test k n [] e = absurd (none-some e)
 listed-from p test k n (x ∷ xs) e = listed-by p (test x) k n (length xs) (numbers_from test (k + 1) xs) (listed-from p test (k + 1) n xs) e
 
--- one that was found among the numbers of a list is there
+-- a number found among the numbers of the passing items has an item
 pub found-there : {X : Type 0} (p : ℕ → Bool) (test : X → Bool) (xs : List X) (n : ℕ) → find p (numbers_where test xs) ≡ Some n → item_at xs n ≡ None → ⊥
 found-there p test xs n e = let (some, within) = listed-from p test 1 n xs e in item-within xs n some within
 
@@ -61,7 +61,7 @@ passes-if : (p : ℕ → Bool) (n m : ℕ) (rest : List ℕ) → ((k : ℕ) → 
 passes-if p n m rest later true here e = passes-by p n m (smallest rest) later here e
 passes-if p n m rest later false here e = later m e
 
--- the smallest of those that pass passes
+-- the smallest of the numbers that pass the test passes it
 pub smallest-passes : (p : ℕ → Bool) (ns : List ℕ) (m : ℕ) → smallest (filter p ns) ≡ Some m → p m ≡ true
 smallest-passes p [] m e = absurd (none-some e)
 smallest-passes p (n ∷ ns) m e = passes-if p n m (filter p ns) (smallest-passes p ns) (p n) refl e

@@ -1,4 +1,4 @@
--- What holds of an element that was read holds at its place.
+-- A property of an element that was read is a property of the element at its place.
 use Rattle.std.proofs.Common.{◌≡◌, ℕ, ◌<◌, List, length, subst, get_or}
 use Rattle.std.proofs.lemmas.List.{get_or_read}
 

@@ -1,4 +1,4 @@
--- Numbers that stand in order already.
+-- Lists of numbers that are already ascending.
 use Rattle.std.specs.Prelude.{◌≡◌, ◌↔◌, ℕ, zero, suc, ◌+◌, ◌-◌, ◌<◌, nat_lt, ◌==◌, Bool, true, false, cond, List, [], ◌∷◌, ◌++◌, length, get_or, fold, IsTrue}
 use Rattle.std.proofs.Common.{refl, sym, ap, subst, ◌∙◌, arith, Ordering, Less, Equal, Greater}
 use Rattle.std.specs.List.{IsAllAdjacentAnswer}
@@ -17,7 +17,7 @@ use Rattle.acta_table.specs.Sets.{numbers_of, numbered, each_once}
 less : (x y : ℕ) → true ≡ nat_lt x y → nat_cmp x y ≡ Less
 less x y is = ap (λ b. cond b Less (cond (x == y) Equal Greater)) (sym is)
 
--- they do where each stands below the next
+-- they are if each is below the next
 pub in_order_by_next : (ops : List OpNo) (answer : Bool) → IsAllAdjacentAnswer (λ o p b. b ≡ nat_lt o.0 p.0) ops answer → IsTrue answer → IsStrictlySortedBy nat_cmp (numbers_of ops)
 unfolding IsStrictlySortedBy
 in_order_by_next [] answer each is = tt
@@ -45,7 +45,7 @@ below x y e = of (nat_lt x y) refl e
 above : (x y : ℕ) → nat_cmp x y ≡ Less → nat_cmp y x ≡ Greater
 above x y e = sym (nat_cmp_is y x Greater (below x y e))
 
--- one that is above all others is put behind them
+-- a number above all others is appended
 at_end : (keys : List ℕ) (n : ℕ) → ((i : ℕ) → i < length keys → nat_cmp (get_or keys i 0) n ≡ Less) → insert_key nat_cmp keys n ≡ keys ++ n ∷ []
 at_end [] n low = refl
 at_end (k ∷ keys) n low =
@@ -69,6 +69,6 @@ numbered-numbers : (ops : List OpNo) → ops ≡ numbered (numbers_of ops)
 numbered-numbers [] = refl
 numbered-numbers (o ∷ ops) = λ i. o ∷ numbered-numbers ops i
 
--- operations that stand in order are their set
+-- an ascending list of operations is its own set
 pub each_once-sorted : (ops : List OpNo) → IsStrictlySortedBy nat_cmp (numbers_of ops) → ops ≡ each_once ops
 each_once-sorted ops sorted = numbered-numbers ops ∙ ap numbered (sym (put-behind [] (numbers_of ops) sorted))

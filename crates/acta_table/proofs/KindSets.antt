@@ -1,4 +1,4 @@
--- Sets of numbers, as the bits of a number.
+-- Sets of kinds as bit masks.
 use Rattle.std.proofs.Common.{◌≡◌, ℕ, zero, suc, ◌*◌, ◌^◌, ◌<◌, false, ◌||◌, ◌==◌, bit_and, bit_or, refl, ap, ◌∙◌, arith, max, Option, Some, None, option_map, eq-eqb}
 use Rattle.std.specs.Int.{bit_at}
 use Rattle.std.specs.Option.{option_map_or}

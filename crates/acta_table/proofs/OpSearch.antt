@@ -1,4 +1,4 @@
--- What a binary search among the operations of a set finds.
+-- The result of a binary search among the operations of a set.
 use Rattle.std.proofs.Common.{◌≡◌, ℕ, false, ◌==◌, ◌<◌, ◌≤◌, List, length, sym, subst, ⊎_elim, Less, Greater, arith, eq-eqb, ne_eqb}
 use Rattle.std.specs.Prelude.{Result, Ok, Err, is_ok}
 use Rattle.std.specs.Cmp.{ranks}
@@ -31,7 +31,7 @@ compared-rise ops n sorted i j d le lt =
     let second = get_or-map (λ (o : OpNo). o.0) ops j d 0 lt in
     rises _ _ n (omega (arith, at, first, second))
 
--- it answers a place exactly where the set has the number
+-- it finds a position exactly if the set has the number
 pub found-named : (ops : List OpNo) (n : ℕ) (r : Result ℕ ℕ) → IsStrictlySortedBy nat_cmp (numbers_of ops) → IsSearchInRange r (length ops) → IsBinarySearchResult (λ o. nat_cmp o.0 n) ops r → is_ok r ≡ is_named ops n
 found-named ops n (Ok i) sorted within at =
     let none : OpNo = record { 0 = 0 } in

@@ -1,4 +1,4 @@
--- The start edges that there are stand in their order, and where some stand in it.
+-- The list of all start edges is sorted, and when a list of start edges is sorted.
 use Rattle.std.specs.Prelude.{◌≡◌, ◌↔◌, ℕ, ◌+◌, ◌<◌, Bool, true, false, List, [], ◌∷◌, length, flat_map, IsTrue}
 use Rattle.std.proofs.Common.{refl, ap, ◌∙◌, arith, rules, Ordering, Less, Equal, Greater}
 use Rattle.std.specs.List.{IsAllAdjacentAnswer}
@@ -24,7 +24,7 @@ less Less is = refl
 less Equal is = cc
 less Greater is = cc
 
--- they stand in it just where each stands before the next
+-- they are sorted exactly if each comes before the next
 pub in_order_by_next : (edges : List StartEdge) (answer : Bool) →
     IsAllAdjacentAnswer (λ e f b. b ≡ is_lt (start_edge_cmp e f)) edges answer →
     IsTrue answer ↔ IsStrictlySortedBy start_edge_cmp edges

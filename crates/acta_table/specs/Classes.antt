@@ -1,4 +1,4 @@
--- What a model says of its classes and objects. A class that is not there allows nothing.
+-- Properties of a model's classes and objects.
 use Rattle.std.specs.Prelude.{ℕ, Bool, true, false, Option, slice_get, option_map}
 use Rattle.acta_table.specs.declared.event.EventKind.{EventKind}
 use Rattle.acta_table.specs.declared.event.EventKind.TheVariants.{Begin, Spawn, Split}
@@ -14,40 +14,40 @@ use Rattle.acta_table.specs.declared.model.AtCommit.TheVariants.{ToParent}
 use Rattle.acta_table.specs.declared.model.Parts.{Parts}
 use Rattle.acta_table.specs.Kinds.{has_kind}
 
--- the object of this number
+-- the object with this number
 abbrev pub object_at : {A : Type 0} → Parts A → ℕ → Option (Object A)
 object_at m object = slice_get m.objects object
 
--- the class of this number
+-- the class with this number
 abbrev pub class_at : {A : Type 0} → Parts A → ℕ → Option (Class A)
 class_at m class = slice_get m.classes class
 
--- the kind of the object of this number
+-- the kind of the object with this number
 abbrev pub kind_at : {A : Type 0} → Parts A → ℕ → Option Kind
 kind_at m object = option_map (λ o. o.kind) (object_at m object)
 
--- whether the class may start by an event of this kind
+-- whether a transaction of the class may start by an event of this kind
 abbrev pub can_start : {A : Type 0} → EventKind → Class A → Bool
 can_start Begin class = class.starts.begin
 can_start Spawn class = class.starts.spawned
 can_start Split class = class.starts.split
 can_start _ class = false
 
--- whether the class may do an event of this kind
+-- whether a transaction of the class may do an event of this kind
 abbrev pub can_do : {A : Type 0} → EventKind → Class A → Bool
 can_do kind class = has_kind class.may kind
 
--- whether all that is held has to be handed over
+-- whether a delegation must transfer everything that the transaction holds
 abbrev pub is_whole : Extent → Bool
 is_whole Whole = true
 is_whole _ = false
 
--- whether what ancestors hold is left out of the conflict set
+-- whether the operations of ancestors are exempt from the conflict set
 abbrev pub exempts : Scope → Bool
 exempts NonAncestors = true
 exempts _ = false
 
--- whether a commit leaves what is held to the parent
+-- whether a commit transfers the operations to the parent
 abbrev pub has_heir : AtCommit → Bool
 has_heir ToParent = true
 has_heir _ = false

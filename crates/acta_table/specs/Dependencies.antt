@@ -1,4 +1,4 @@
--- The kinds of dependency: their codes and words, and the sets of them as the bits of a number.
+-- The kinds of dependency: codes, short names, and sets of kinds as bit masks.
 use Rattle.std.specs.Prelude.{ℕ, ◌^◌, Bool, true, false, List, [], ◌∷◌, Option, Some, codes}
 use Rattle.acta_table.specs.declared.dep.Dep.{Dep}
 use Rattle.acta_table.specs.declared.dep.Dep.TheVariants.{Cd, Scd, Ad, Wd, Td, Ed, Cmd, Bd, Sd, Bcd, Bad, Wcd}
@@ -6,7 +6,7 @@ use Rattle.acta_table.specs.declared.dep.Missing.{Missing}
 use Rattle.acta_table.specs.declared.dep.Missing.TheVariants.{Commit, Abort}
 use Rattle.acta_table.specs.Kinds.{has_bit}
 
--- the code of the kind, which is also the bit that stands for it, the lowest being 0
+-- the code of the kind, which is also its bit in a mask, from 0
 abbrev pub code_of : Dep → ℕ
 code_of Cd = 0
 code_of Scd = 1
@@ -53,7 +53,7 @@ is_begin_kind _ = false
 abbrev pub has_dep : ℕ → Dep → Bool
 has_dep kinds kind = has_bit kinds (code_of kind)
 
--- the set of the kind alone
+-- the set of this kind alone
 abbrev pub only_dep : Dep → ℕ
 only_dep kind = 2 ^ code_of kind
 

@@ -1,4 +1,4 @@
--- What an event is and names.
+-- The parts of an event.
 use Rattle.std.specs.Prelude.{ℕ, Bool, true, false, ◌&&◌, ◌==◌, List, [], ◌∷◌, Option, Some, None}
 use Rattle.acta_table.specs.declared.event.OpNo.{OpNo}
 use Rattle.acta_table.specs.declared.event.EventKind.{EventKind}
@@ -32,7 +32,7 @@ named (Commit t) = t.0 ∷ []
 named (Abort t) = t.0 ∷ []
 named (Permit t u ob) = t.0 ∷ u.0 ∷ []
 
--- the transaction that acts: one that has to be in progress
+-- the transaction that acts, which must be in progress
 abbrev pub acting : {A : Type 0} → Event A → Option ℕ
 acting (Begin t class) = None
 acting (Spawn t c class) = Some t.0
@@ -65,7 +65,7 @@ object_named (Operate t ob op) = Some ob.0
 object_named (Permit t u ob) = Some ob.0
 object_named _ = None
 
--- the transaction that is handed or permitted something: one that has to be in progress too
+-- the transaction that receives operations or a permit, which must be in progress too
 abbrev pub partner : {A : Type 0} → Event A → Option ℕ
 partner (Join t u) = Some u.0
 partner (Delegate t u ops) = Some u.0
@@ -78,13 +78,13 @@ operations_named (Split t u class ops) = ops
 operations_named (Delegate t u ops) = ops
 operations_named _ = []
 
--- whether the event hands operations over by name
+-- whether the event lists operations to transfer
 abbrev pub transfers_over : {A : Type 0} → Event A → Bool
 transfers_over (Split t u class ops) = true
 transfers_over (Delegate t u ops) = true
 transfers_over _ = false
 
--- whether by the event s permits t to work on the object
+-- whether the event is a permit by s for t on the object
 abbrev pub permits : {A : Type 0} → ℕ → ℕ → ℕ → Event A → Bool
 permits s t object (Permit u v ob) = (u.0 == s) && (v.0 == t) && (ob.0 == object)
 permits s t object _ = false

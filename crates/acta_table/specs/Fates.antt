@@ -1,4 +1,4 @@
--- What became of an operation.
+-- The fates of operations.
 use Rattle.std.specs.Prelude.{Bool, true, false}
 use Rattle.acta_table.specs.declared.answer.Fate.{Fate}
 use Rattle.acta_table.specs.declared.answer.Fate.TheVariants.{InProgress, Committed, Aborted}

@@ -1,4 +1,4 @@
--- What is wrong with the parts of a model, the lowest first.
+-- Faults in the parts of a model, the lowest first.
 use Rattle.std.specs.Prelude.{ℕ, Bool, false, not, ◌&&◌, ◌||◌, ◌==◌, nat_lt, nat_le, List, [], ◌∷◌, map, length, Option, Some, None, fold, if◌then◌else◌, slice_index}
 use Rattle.std.specs.List.{list_any, list_all}
 use Rattle.std.specs.Option.{option_or}
@@ -14,14 +14,14 @@ use Rattle.acta_table.specs.Classes.{has_heir}
 use Rattle.acta_table.specs.Dependencies.{is_begin_kind}
 use Rattle.acta_table.specs.Policies.{is_bad_policy}
 
--- a name has 1 to 32 bytes: an ASCII letter first, then letters, digits or underscores
+-- a name is an ASCII letter followed by at most 31 letters, digits or underscores
 abbrev pub is_name : List ℕ → Bool
 is_name name =
     nat_lt 0 (length name) && nat_le (length name) LONGEST_NAME
     && is_ascii_alphabetic (slice_index name 0)
     && list_all (λ b. is_ascii_alphanumeric b || (b == 95)) name
 
--- whether some name stands twice
+-- whether some name occurs twice
 abbrev pub has_twice : List (List ℕ) → Bool
 has_twice [] = false
 has_twice (name ∷ names) = list_any (bytes_eq name) names || has_twice names
@@ -33,7 +33,7 @@ object_names m = map (λ o. o.name) m.objects
 abbrev pub class_names : {A : Type 0} → Parts A → List (List ℕ)
 class_names m = map (λ c. c.name) m.classes
 
--- whether one of these start edges is of a begin kind: it would bar the start that forms it
+-- whether one of the start edges is of a begin kind, which would block the start that forms it
 abbrev pub has_begin_edge : List StartEdge → Bool
 has_begin_edge edges = list_any (λ e. is_begin_kind e.kind) edges
 
@@ -41,11 +41,11 @@ has_begin_edge edges = list_any (λ e. is_begin_kind e.kind) edges
 abbrev pub has_begin_kind : {A : Type 0} → Class A → Bool
 has_begin_kind class = has_begin_edge class.spawn_edges || has_begin_edge class.split_edges
 
--- whether the class commits to parents, and some of its transactions have none: they begin or are split off
+-- whether the class commits to parents, but its transactions can start without one, by a begin or a split
 abbrev pub lacks_parents : {A : Type 0} → Class A → Bool
 lacks_parents class = has_heir class.at_commit && (class.starts.begin || class.starts.split)
 
--- the fault, where the test is true
+-- the fault, if the test is true
 abbrev pub fault_if : Bool → ModelFault → Option ModelFault
 fault_if test fault = if test then Some fault else None
 

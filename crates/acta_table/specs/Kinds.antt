@@ -1,11 +1,11 @@
--- Sets of kinds of event, as the bits of a number.
+-- Sets of kinds of event as bit masks.
 use Rattle.std.specs.Prelude.{ℕ, ◌^◌, Bool, false, ◌==◌, Option, Some, None}
 use Rattle.std.specs.Int.{bit_at}
 use Rattle.std.specs.Option.{option_map_or}
 use Rattle.acta_table.specs.declared.event.EventKind.{EventKind}
 use Rattle.acta_table.specs.declared.event.EventKind.TheVariants.{Begin, Spawn, Split, Join, Delegate, Form, Operate, Commit, Abort, Permit}
 
--- which bit stands for the kind, the lowest having the code 0; none does for Begin
+-- the bit of the kind, from 0; Begin has none
 abbrev pub kind_code : EventKind → Option ℕ
 kind_code Begin = None
 kind_code Spawn = Some 0
@@ -26,6 +26,6 @@ has_bit bits code = bit_at bits code == 1
 abbrev pub has_kind : ℕ → EventKind → Bool
 has_kind kinds kind = option_map_or (has_bit kinds) (kind_code kind) false
 
--- the set of the kind alone; no kind for Begin
+-- the set of this kind alone; the empty set for Begin
 abbrev pub only_kind : EventKind → ℕ
 only_kind kind = option_map_or (λ code. 2 ^ code) (kind_code kind) 0

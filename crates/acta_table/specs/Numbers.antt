@@ -1,4 +1,4 @@
--- The numbers and names of the rules, and the numbers of the faults of models: they are read in this order.
+-- The numbers and names of the rules, and the numbers of model faults. Lower numbers are checked first.
 use Rattle.std.specs.Prelude.{ℕ, List, codes}
 use Rattle.acta_table.specs.declared.answer.Rule.{Rule}
 use Rattle.acta_table.specs.declared.answer.Rule.TheVariants.{Full, BadNumber, BadClass, BadObject, BadOperation, SameTransaction, NotInProgress, AlreadyBegun, NotInModel, PartnerNotInProgress, NotResponsible, PartialDelegation, BadSet, Conflict, FormTooLate, EdgesFull, BeginDep, SerialDep, BeginOnCommit, BeginOnAbort, TerminationDep, OwesAbort, OwesCommit, CommitOrder, WeakBegin, Unpayable, Clash, NoHeir}

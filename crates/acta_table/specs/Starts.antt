@@ -1,4 +1,4 @@
--- The edges that a class wants formed where one transaction starts another.
+-- The edges that are formed when one transaction starts another.
 use Rattle.std.specs.Prelude.{ℕ, Bool, ◌&&◌, ◌==◌, List, [], ◌∷◌, filter, flat_map, map}
 use Rattle.std.specs.List.{list_any}
 use Rattle.std.specs.declared.cmp.Ordering.{Ordering}
@@ -12,16 +12,16 @@ use Rattle.acta_table.specs.declared.start_edges.StartEdge.{StartEdge}
 use Rattle.acta_table.specs.Dependencies.{code_of, all_kinds}
 use Rattle.acta_table.specs.Edges.{same_kind}
 
--- the one that starts comes first, and then the one that is started
+-- the order of directions: the starting transaction's edge comes first
 abbrev pub rank_of : Dependent → ℕ
 rank_of Starter = 0
 rank_of Started = 1
 
--- whether two start edges are one
+-- whether two start edges are equal
 abbrev pub same_start_edge : StartEdge → StartEdge → Bool
 same_start_edge e f = same_kind e.kind f.kind && (rank_of e.dependent == rank_of f.dependent)
 
--- their order: by the code of the kind, and of one kind the starter's first
+-- the order of start edges: by kind code, then the starter's first
 abbrev pub start_edge_cmp : StartEdge → StartEdge → Ordering
 start_edge_cmp e f =
     ordering_then
@@ -33,23 +33,23 @@ abbrev pub both_of : Dep → List StartEdge
 both_of kind =
     (record { kind = kind; dependent = Starter }) ∷ (record { kind = kind; dependent = Started }) ∷ []
 
--- whether the start edge is among these
+-- whether the start edge is in the list
 abbrev pub is_listed : List StartEdge → StartEdge → Bool
 is_listed edges e = list_any (same_start_edge e) edges
 
--- the start edges, each once, in their order
+-- the start edges in order, each once
 abbrev pub each_start_edge_once : List StartEdge → List StartEdge
 each_start_edge_once edges = filter (is_listed edges) (flat_map both_of all_kinds)
 
--- the edge of this kind between the one that starts and the one that is started
+-- the edge of this kind between the starting and the started transaction
 abbrev pub directed : Dep → TxnId → TxnId → Dependent → Edge
 directed kind starter started Starter = record { kind = kind; j = starter; i = started }
 directed kind starter started Started = record { kind = kind; j = started; i = starter }
 
--- the edge that a start edge means
+-- the edge that a start edge forms
 abbrev pub edge_between : TxnId → TxnId → StartEdge → Edge
 edge_between starter started e = directed e.kind starter started e.dependent
 
--- the edges that start edges mean
+-- the edges that start edges form
 abbrev pub edges_between : TxnId → TxnId → List StartEdge → List Edge
 edges_between starter started edges = map (edge_between starter started) edges

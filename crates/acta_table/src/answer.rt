@@ -5,18 +5,18 @@ ghost use Rattle.acta_table.specs.Numbers.{rule_number};
 
 use crate::event::{Ret, TxnId};
 
-/// How a transaction stands.
+/// The status of a transaction.
 #[derive(Clone, Copy, PartialEq, Eq, Hash, Debug)]
 pub enum Status {
     NotBegun,
     InProgress,
     Committed,
     Aborted,
-    /// It joined another transaction, which holds what it held.
+    /// It joined another transaction, which took over its operations.
     Joined,
 }
 
-/// What became of an operation.
+/// The fate of an operation.
 #[derive(Clone, Copy, PartialEq, Eq, Hash, Debug)]
 pub enum Fate {
     InProgress,
@@ -24,7 +24,7 @@ pub enum Fate {
     Aborted,
 }
 
-/// The rules by which an event is refused, in the order in which they are read (our numbering).
+/// The rules that can refuse an event, in the order in which they are checked.
 #[derive(Clone, Copy, PartialEq, Eq, Hash, Debug)]
 pub enum Rule {
     Full = 1,
@@ -66,7 +66,7 @@ impl Rule {
     }
 }
 
-/// A broken rule, with the smallest number that breaks it where the rule names one.
+/// A broken rule, with the smallest number that breaks it if the rule names one.
 #[derive(Clone, Copy, PartialEq, Eq, Hash, Debug)]
 pub struct Refusal {
     pub rule: Rule,
@@ -74,14 +74,14 @@ pub struct Refusal {
 }
 
 impl Refusal {
-    /// The rule is broken, and names no number.
+    /// Returns a refusal by a rule that names no number.
     pub fn of(rule: Rule) -> Refusal
         ensures { result ≡ record { rule = rule; by = None } }
     {
         Refusal { rule, by: None }
     }
 
-    /// The rule is broken by this number.
+    /// Returns a refusal by a rule that names this number.
     pub fn by(rule: Rule, number: u32) -> Refusal
         ensures { result ≡ record { rule = rule; by = Some number } }
     {
@@ -92,7 +92,7 @@ impl Refusal {
     }
 }
 
-/// The lesser of the least number so far and one more: of the numbers that break a rule the smallest is named.
+/// Returns the smaller of the two numbers. A rule names the smallest number that breaks it.
 pub fn lesser(least: Option<u32>, number: u32) -> Option<u32>
     ensures { result ≡ Some (option_map_or (min number) least number) }
 {
@@ -102,7 +102,7 @@ pub fn lesser(least: Option<u32>, number: u32) -> Option<u32>
     }
 }
 
-/// The smaller of those of two transactions of which something holds, as a rule that looks at both names it.
+/// Returns the smallest of those of the two transactions whose flag is set, for a rule that checks both.
 pub fn smallest_of(j: TxnId, is_j: bool, i: TxnId, is_i: bool) -> Option<u32>
     ensures { result ≡ smallest ((if is_j then j.0 ∷ [] else []) ++ (if is_i then i.0 ∷ [] else [])) }
 {
@@ -114,11 +114,11 @@ pub fn smallest_of(j: TxnId, is_j: bool, i: TxnId, is_i: bool) -> Option<u32>
     }
 }
 
-/// What a machine says of an event.
+/// The machine's answer to an event.
 #[derive(Clone, Copy, PartialEq, Eq, Hash, Debug)]
 pub enum Answer {
-    /// It has this place in the history, from 1; an operation has its return.
+    /// Admitted at this place in the history, from 1. An operation has a return.
     Admitted { place: u32, ret: Option<Ret> },
-    /// It breaks this rule and no lower one.
+    /// Refused. This is the lowest rule that the event breaks.
     Refused { rule: Rule, by: Option<u32> },
 }

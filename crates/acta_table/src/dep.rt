@@ -6,7 +6,7 @@ ghost use Rattle.acta_table.specs.Edges.{same_edge, is_among};
 use crate::event::TxnId;
 use bitflags::{Flag, Flags};
 
-/// The kinds of dependency, by code from 0 on. A transaction t_j depends on a t_i.
+/// The kinds of dependency, by code from 0. A transaction t_j depends on a t_i.
 #[derive(Clone, Copy, PartialEq, Eq, PartialOrd, Ord, Hash, Debug)]
 pub enum Dep {
     /// Commit: if both commit, t_i commits first.
@@ -52,7 +52,7 @@ impl Dep {
         Dep::Wcd,
     ];
 
-    /// The code of the kind, from 0 to 11 (our numbering).
+    /// The code of the kind, from 0 to 11.
     pub fn code(self) -> u8
         ensures { result ≡ code_of self }
     {
@@ -190,8 +190,8 @@ fn bit_of(kind: Dep) -> DepBits
     }
 }
 
-/// A set of kinds of dependency. Contracts see the number whose bits name the kinds: the kind of
-/// code c has the bit c, from `Cd` the lowest to `Wcd` the twelfth.
+/// A set of kinds of dependency. In contracts it is a bit mask: the kind with code c has bit c, from `Cd` the lowest to
+/// `Wcd` the twelfth.
 #[derive(Clone, Copy, PartialEq, Eq, Debug)]
 pub struct DepKinds {
     bits: DepBits,
@@ -210,7 +210,7 @@ impl std::marker::Model for DepKinds {
 }
 
 impl DepKinds {
-    /// No kind.
+    /// The empty set.
     pub fn none() -> DepKinds
         ensures empty { (kind : Dep) → has_dep result kind ≡ false }
         ensures bits { result ≡ 0 }
@@ -227,7 +227,7 @@ impl DepKinds {
         DepKinds { bits: bit_of(kind) }
     }
 
-    /// The kinds that are in one of the two sets.
+    /// The union of the two sets.
     pub fn union(self, other: DepKinds) -> DepKinds
         ensures either { (kind : Dep) → has_dep result kind ≡ (has_dep self kind || has_dep other kind) }
         ensures bits { result ≡ bit_or self other }
@@ -244,12 +244,12 @@ impl DepKinds {
         self.bits.contains(bit_of(kind))
     }
 
-    // No other bit is set: a fact of the type.
+    // States the type's invariant: no other bit is set.
     pub(crate) fn lemma_invariant(self)
         ensures { self < 2 ^ 12 }
     {}
 
-    /// The number whose bits name the kinds, below 4,096.
+    /// The bit mask of the set, below 4,096.
     pub fn bits(self) -> u16
         ensures bits { result ≡ self }
         ensures known { result < 2 ^ 12 }
@@ -257,7 +257,7 @@ impl DepKinds {
         self.bits.bits()
     }
 
-    /// The set that has this number, or `None` where a bit is set that no kind has.
+    /// The set with this bit mask, or `None` if a bit is set that belongs to no kind.
     pub fn from_bits(bits: u16) -> Option<DepKinds>
         ensures known { IsSome result ↔ (bits < 2 ^ 12) }
         ensures same { IfSome result (λ kinds. kinds ≡ bits) }
@@ -281,14 +281,14 @@ pub struct Edge {
 }
 
 impl Edge {
-    /// Whether the two are one: of the same kind, between the same transactions.
+    /// Whether the two edges are equal: same kind, same transactions.
     pub fn is_same(&self, other: &Edge) -> bool
         ensures { result ≡ same_edge self.now other.now }
     {
         self.kind.code() == other.kind.code() && self.j.0 == other.j.0 && self.i.0 == other.i.0
     }
 
-    /// Whether the edge is among these.
+    /// Whether the edge is in the list.
     pub fn is_among(&self, edges: &[Edge]) -> bool
         ensures { result ≡ is_among edges.now self.now }
     {
@@ -296,18 +296,18 @@ impl Edge {
     }
 }
 
-/// The number of an edge among those in force, in order of forming, from 1.
+/// The number of an edge among those in force, from 1 in order of forming.
 #[derive(Clone, Copy, PartialEq, Eq, Hash, Debug)]
 pub struct EdgeNo(pub u64);
 
-/// The one event that would pay a debt.
+/// The event that would settle a debt.
 #[derive(Clone, Copy, PartialEq, Eq, Hash, Debug)]
 pub enum Missing {
     Commit,
     Abort,
 }
 
-/// A debt: by the edge of this number the transaction owes an event.
+/// A debt: because of the edge with this number, the transaction must still do an event.
 #[derive(Clone, Copy, PartialEq, Eq, Hash, Debug)]
 pub struct Owed {
     pub edge: EdgeNo,

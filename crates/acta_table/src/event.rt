@@ -5,7 +5,7 @@ use crate::dep::Dep;
 use crate::op_set::OpSet;
 use std::alloc::{AllocError, Allocator};
 
-/// The number of a transaction: from 1 to `LAST_TXN` where it is one of a history.
+/// The number of a transaction: 1 to `LAST_TXN` in a history.
 #[derive(Clone, Copy, PartialEq, Eq, Hash, Debug)]
 pub struct TxnId(pub u16);
 
@@ -32,9 +32,9 @@ pub enum Op {
     Get,
     /// Adds to the value of a counter.
     Add(i32),
-    /// Puts an element into a set, and returns whether it was absent.
+    /// Inserts an element into a set, and returns whether it was absent.
     Insert(i32),
-    /// Takes an element out of a set, and returns whether it was present.
+    /// Removes an element from a set, and returns whether it was present.
     Remove(i32),
     /// Returns whether an element is present in a set.
     Has(i32),
@@ -42,18 +42,18 @@ pub enum Op {
     Size,
 }
 
-/// What an operation returns.
+/// The return of an operation.
 #[derive(Clone, Copy, PartialEq, Eq, Hash, Debug)]
 pub enum Ret {
-    /// It was done, and there is nothing to tell.
+    /// No value.
     Done,
-    /// A number that was read.
+    /// A number.
     Value(i64),
     /// Yes or no.
     Flag(bool),
 }
 
-/// The kinds of event. All but `Operate` are ACTA's significant events and their like.
+/// The kinds of event. All but `Operate` are ACTA's significant events, or additions of the same kind.
 #[derive(Clone, Copy, PartialEq, Eq, Hash, Debug)]
 pub enum EventKind {
     Begin,
@@ -68,20 +68,19 @@ pub enum EventKind {
     Permit,
 }
 
-/// What happens in a history.
+/// An event of a history.
 #[derive(Drop)]
 pub enum Event<A: Allocator> {
     /// The transaction begins, with the class.
     Begin(TxnId, ClassId),
-    /// The first transaction spawns the second, with the class, and is its parent from then on.
+    /// The first transaction spawns the second, with the class, and becomes its parent.
     Spawn(TxnId, TxnId, ClassId),
-    /// The first transaction splits off the second, with the class, and hands it the operations, which the second holds
-    /// from then on.
+    /// The first transaction splits off the second, with the class, and transfers the operations to it.
     Split(TxnId, TxnId, ClassId, OpSet<A>),
-    /// The first transaction joins the second, which holds all that the first held in progress; the first has ended by
-    /// it.
+    /// The first transaction joins the second and so ends. The second holds all operations that the first held in
+    /// progress.
     Join(TxnId, TxnId),
-    /// The first transaction hands the operations to the second, which holds them from then on.
+    /// The first transaction delegates the operations to the second, which then holds them.
     Delegate(TxnId, TxnId, OpSet<A>),
     /// A dependency is formed: of this kind, of the first transaction on the second.
     Form(Dep, TxnId, TxnId),
@@ -91,8 +90,8 @@ pub enum Event<A: Allocator> {
     Commit(TxnId),
     /// The transaction aborts.
     Abort(TxnId),
-    /// The first transaction permits the second to work on the object beside it: while both are in progress, what the
-    /// first holds on the object conflicts with nothing that the second does there (ASSET's permit, of one object).
+    /// The first transaction permits the second to work on the object: while both are in progress, operations that the
+    /// first holds on the object do not conflict with the second's (ASSET's permit, for one object).
     Permit(TxnId, TxnId, ObjId),
 }
 
@@ -125,8 +124,8 @@ impl<A: Allocator> Event<A> {
         }
     }
 
-    /// The transaction that does the event, and has to be in progress for it: there is none that begins, and an edge
-    /// may be formed before it begins.
+    /// The transaction that does the event and must be in progress. None for a begin, and none for a form event, since
+    /// edges may be formed before their transactions begin.
     pub fn acting(&self) -> Option<TxnId>
         ensures { option_map (λ t. t.0) result ≡ acting self.now }
     {
@@ -143,7 +142,7 @@ impl<A: Allocator> Event<A> {
         }
     }
 
-    /// The class that the event names for the transaction that it starts.
+    /// The class of the transaction that the event starts.
     pub fn class(&self) -> Option<ClassId>
         ensures { option_map (λ class. class.0) result ≡ class_named self.now }
     {
@@ -156,7 +155,7 @@ impl<A: Allocator> Event<A> {
     }
 }
 
-// Whether an event is this one, for each kind of event.
+// Equality of events, one function for each kind.
 impl<A: Allocator> Event<A> {
     fn is_begin(&self, t: TxnId, class: ClassId) -> bool
         ensures { Decides result (Event.Begin t class ≡ self.now) }
@@ -250,7 +249,7 @@ impl<A: Allocator> Event<A> {
         }
     }
 
-    /// Whether the two are the same event.
+    /// Whether the two events are equal.
     pub fn is_same(&self, other: &Event<A>) -> bool
         ensures { Decides result (self.now ≡ other.now) }
     {
@@ -270,7 +269,7 @@ impl<A: Allocator> Event<A> {
 }
 
 impl<A: Allocator + Copy> Event<A> {
-    /// The same event, in memory of its own.
+    /// Returns a copy of the event.
     pub fn copy(&self) -> Result<Event<A>, AllocError>
         ensures { IfOk result (λ event. event ≡ self.now) }
     {
@@ -297,7 +296,7 @@ pub struct Kept<A: Allocator> {
 }
 
 impl<A: Allocator + Copy> Kept<A> {
-    /// The same item, in memory of its own.
+    /// Returns a copy of the item.
     pub fn copy(&self) -> Result<Kept<A>, AllocError>
         ensures { IfOk result (λ kept. kept ≡ self.now) }
     {

@@ -2,7 +2,7 @@ ghost use Rattle.std.specs.Prelude.{◌≡◌, ◌≤◌, [], ℕ, IfOk, OnErr, 
 
 use std::alloc::{AllocError, Allocator};
 
-/// A list that stands in a field, which contracts see as the list of its elements.
+/// A list for use in a field. Contracts see it as the list of its elements.
 #[derive(Drop)]
 pub struct Items<T, A: Allocator> {
     items: Vec<T, A>,
@@ -17,7 +17,7 @@ impl<T, A: Allocator> std::marker::Model for Items<T, A> {
 }
 
 impl<T, A: Allocator> Items<T, A> {
-    /// No element. Takes no memory.
+    /// The empty list. Allocates nothing.
     pub fn new(alloc: A) -> Items<T, A>
         ensures { result ≡ [] }
     {
@@ -26,7 +26,7 @@ impl<T, A: Allocator> Items<T, A> {
         }
     }
 
-    /// The elements of the vector, in its own memory.
+    /// Takes over the vector, without copying.
     pub fn of(items: Vec<T, A>) -> Items<T, A>
         ensures { result ≡ items.items }
     {
@@ -49,7 +49,7 @@ impl<T, A: Allocator + Copy> Items<T, A> {
 }
 
 impl<T: Copy, A: Allocator + Copy> Items<T, A> {
-    /// The same list, in memory of its own.
+    /// Returns a copy of the list.
     pub fn copy(&self) -> Result<Items<T, A>, AllocError>
         ensures { IfOk result (λ items. items ≡ self.now) }
     {
@@ -59,8 +59,8 @@ impl<T: Copy, A: Allocator + Copy> Items<T, A> {
     }
 }
 
-/// Makes the list so long, where it is shorter, by this item put behind the others as often as that takes. On `Err` the
-/// list stays as it was.
+/// Extends the list to the given length with copies of the item. A list that is long enough is unchanged, and so is the
+/// list on `Err`.
 pub fn lengthen<T: Copy, A: Allocator>(
     items: &mut Vec<T, A>,
     count: usize,

@@ -84,8 +84,8 @@ fn bit_of(kind: EventKind) -> Option<KindBits>
     }
 }
 
-/// A set of the kinds of event that a class may do: of all kinds but Begin, which `Starts` speaks of.
-/// Contracts see the number whose bits name the kinds, `Spawn` the lowest and `Permit` the ninth.
+/// A set of the kinds of event that a class may do: all but Begin, which `Starts` covers. In contracts it is a bit
+/// mask, `Spawn` the lowest bit and `Permit` the ninth.
 #[derive(Clone, Copy, PartialEq, Eq, Debug)]
 pub struct Kinds {
     bits: KindBits,
@@ -104,7 +104,7 @@ impl std::marker::Model for Kinds {
 }
 
 impl Kinds {
-    /// No kind.
+    /// The empty set.
     pub fn none() -> Kinds
         ensures empty { (kind : EventKind) → has_kind result kind ≡ false }
         ensures bits { result ≡ 0 }
@@ -114,7 +114,7 @@ impl Kinds {
         }
     }
 
-    /// The set of this kind alone; no kind for Begin, which is in no set.
+    /// The set of this kind alone; the empty set for Begin, which is in no set.
     pub fn of(kind: EventKind) -> Kinds
         ensures { result ≡ only_kind kind }
     {
@@ -124,7 +124,7 @@ impl Kinds {
         }
     }
 
-    /// The kinds that are in one of the two sets.
+    /// The union of the two sets.
     pub fn union(self, other: Kinds) -> Kinds
         ensures either { (kind : EventKind) → has_kind result kind ≡ (has_kind self kind || has_kind other kind) }
         ensures bits { result ≡ bit_or self other }
@@ -144,12 +144,12 @@ impl Kinds {
         }
     }
 
-    // No other bit is set: a fact of the type.
+    // States the type's invariant: no other bit is set.
     pub(crate) fn lemma_invariant(self)
         ensures { self < 2 ^ 9 }
     {}
 
-    /// The number whose bits name the kinds, below 512.
+    /// The bit mask of the set, below 512.
     pub fn bits(self) -> u16
         ensures bits { result ≡ self }
         ensures known { result < 2 ^ 9 }
@@ -157,7 +157,7 @@ impl Kinds {
         self.bits.bits()
     }
 
-    /// The set that has this number, or `None` where a bit is set that no kind has.
+    /// The set with this bit mask, or `None` if a bit is set that belongs to no kind.
     pub fn from_bits(bits: u16) -> Option<Kinds>
         ensures known { IsSome result ↔ (bits < 2 ^ 9) }
         ensures same { IfSome result (λ kinds. kinds ≡ bits) }

@@ -1,5 +1,5 @@
-//! The words of the framework: transactions, operations, events, classes, checked models, rules and
-//! answers. Types and their well-formedness, and nothing that happens to them.
+//! The types of the framework: transactions, operations, events, classes, checked models, rules and answers, and when
+//! they are well formed. No behaviour.
 //!
 //! A call that allocates returns `Err` if memory runs out.
 #![tactic(auto)]

@@ -1,4 +1,4 @@
-//! The limits of models and histories: ours, each a constant that definitions, code and proofs read equivalent.
+//! The limits of models and histories. Definitions, code and proofs share these constants.
 
 /// The most objects of a model.
 pub const MOST_OBJECTS: usize = 256;
@@ -12,7 +12,7 @@ pub const LONGEST_NAME: usize = 32;
 /// The largest number of a transaction; the least is 1.
 pub const LAST_TXN: u16 = 16_383;
 
-/// How many entries a table by transaction number has: one for each number, and one for 0.
+/// The length of a table indexed by transaction number: one entry for each number, and one for 0.
 pub const TABLE_SIZE: usize = LAST_TXN as usize + 1;
 
 /// The most events of a history.

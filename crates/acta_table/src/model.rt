@@ -18,7 +18,7 @@ use crate::policy::Policy;
 use crate::start_edges::{StartEdge, StartEdges};
 use std::alloc::{AllocError, Allocator};
 
-/// How transactions of a class may start.
+/// The ways in which a transaction of a class may start.
 #[derive(Clone, Copy, PartialEq, Eq, Debug)]
 pub struct Starts {
     pub begin: bool,
@@ -26,41 +26,41 @@ pub struct Starts {
     pub split: bool,
 }
 
-/// Whose operations a transaction can be in conflict with.
+/// The scope of a conflict set: whose operations a transaction can conflict with.
 #[derive(Clone, Copy, PartialEq, Eq, Debug)]
 pub enum Scope {
-    /// Those of all others.
+    /// The operations of all other transactions.
     Others,
-    /// Those of all others but its ancestors.
+    /// The operations of all other transactions but its ancestors.
     NonAncestors,
 }
 
-/// What becomes of the operations that a transaction holds in progress when it commits.
+/// What a commit does with the operations that the transaction holds in progress.
 #[derive(Clone, Copy, PartialEq, Eq, Debug)]
 pub enum AtCommit {
     /// They are committed.
     Keeps,
-    /// Its parent holds them.
+    /// They are transferred to its parent.
     ToParent,
 }
 
-/// How much a transaction has to hand over where it delegates.
+/// How much of its operations a transaction must transfer when it delegates.
 #[derive(Clone, Copy, PartialEq, Eq, Debug)]
 pub enum Extent {
     /// All that it holds in progress.
     Whole,
-    /// Any part of it.
+    /// Any part of what it holds in progress.
     Any,
 }
 
-/// The kind of an object, with its first value.
+/// The kind of an object, with its initial value.
 #[derive(Clone, Copy, PartialEq, Eq, Debug)]
 pub enum Kind {
-    /// One number, with its first value.
+    /// One number, with its initial value.
     Register(i32),
-    /// A sum, with its first value.
+    /// A sum, with its initial value.
     Counter(i32),
-    /// A finite set of numbers, empty at first.
+    /// A finite set of numbers, initially empty.
     Elements,
 }
 
@@ -71,7 +71,7 @@ pub struct Object<A: Allocator> {
     pub kind: Kind,
 }
 
-/// A class of transactions: what those that start with it may do (our form for ACTA's axioms).
+/// A class of transactions: what its transactions may do.
 #[derive(Drop)]
 pub struct Class<A: Allocator> {
     pub name: Items<u8, A>,
@@ -81,20 +81,20 @@ pub struct Class<A: Allocator> {
     pub policy: Policy,
     pub at_commit: AtCommit,
     pub extent: Extent,
-    /// The edges that are formed where a transaction with this class is spawned.
+    /// The edges that are formed when a transaction of this class is spawned.
     pub spawn_edges: StartEdges<A>,
-    /// The edges that are formed where a transaction with this class is split off.
+    /// The edges that are formed when a transaction of this class is split off.
     pub split_edges: StartEdges<A>,
 }
 
-/// The objects and classes of which a model is made.
+/// The objects and classes of a model, not yet checked.
 #[derive(Drop)]
 pub struct Parts<A: Allocator> {
     pub objects: Items<Object<A>, A>,
     pub classes: Items<Class<A>, A>,
 }
 
-/// What is wrong with the parts of a model; the lowest is answered (our list).
+/// A fault in the parts of a model. If there are several, the lowest is reported.
 #[derive(Clone, Copy, PartialEq, Eq, Debug)]
 pub enum ModelFault {
     /// There is no class.
@@ -103,16 +103,16 @@ pub enum ModelFault {
     TooManyClasses = 2,
     /// There are more than `MOST_OBJECTS` objects.
     TooManyObjects = 3,
-    /// Two objects have one name, or two classes have.
+    /// Two objects, or two classes, have the same name.
     DuplicateName = 4,
-    /// A name isn't 1 to 32 bytes, an ASCII letter first, then letters, digits or underscores.
+    /// A name is not an ASCII letter followed by at most 31 letters, digits or underscores.
     BadName = 5,
-    /// A class wants an edge at a start that would bar this start, or comes after it: one of the kinds that
-    /// limit when a transaction may begin.
+    /// A start edge of a class has a kind that limits when a transaction may begin. It would block the start, or come
+    /// too late.
     BeginKindAtStart = 6,
-    /// A class commits to parents, and its transactions can start by a begin or a split, so without one.
+    /// A class commits to parents, but its transactions can start without a parent, by a begin or a split.
     HeirWithoutSpawn = 7,
-    /// A class depends by no kind, or by one other than CD, AD, WD and TD.
+    /// A class has a `Depend` policy with no kind, or with a kind other than CD, AD, WD and TD.
     BadPolicyKind = 8,
 }
 
@@ -125,7 +125,7 @@ impl ModelFault {
     }
 }
 
-/// A checked model: parts that have no fault.
+/// A checked model: its parts have no fault.
 #[derive(Drop)]
 pub struct Model<A: Allocator> {
     parts: Parts<A>,
@@ -151,7 +151,7 @@ fn has_name_bytes(name: &[u8]) -> bool
     name.iter().all(|b| b.is_ascii_alphanumeric() || *b == b'_')
 }
 
-/// Whether the bytes are a name: 1 to 32 of them, an ASCII letter first, then letters, digits or underscores.
+/// Whether the bytes are a name: an ASCII letter, then at most 31 letters, digits or underscores.
 pub fn is_named_well(name: &[u8]) -> bool
     ensures { result ≡ is_name name.now }
 {
@@ -161,7 +161,7 @@ pub fn is_named_well(name: &[u8]) -> bool
         && has_name_bytes(name)
 }
 
-/// What has a name in a model.
+/// Something that has a name in a model.
 trait Named {
     ghost name_of: { Self → List ℕ };
 
@@ -197,7 +197,7 @@ fn is_name_of_one<T: Named>(name: &[u8], items: &[T]) -> bool
     false
 }
 
-// Whether two of the items have one name.
+// Whether two of the items have the same name.
 fn have_name_twice<T: Named>(items: &[T]) -> bool
     ensures { result ≡ has_twice (map T.name_of items.now) }
 {
@@ -211,7 +211,7 @@ fn have_name_twice<T: Named>(items: &[T]) -> bool
     false
 }
 
-// Whether all of the items are named as they should.
+// Whether all items have well-formed names.
 fn are_named_well<T: Named>(items: &[T]) -> bool
     ensures { result ≡ list_all is_name (map T.name_of items.now) }
 {
@@ -223,13 +223,13 @@ fn are_named_well<T: Named>(items: &[T]) -> bool
     true
 }
 
-// A first value has 32 bits: a fact of its type.
+// States the type's invariant: an initial value fits 32 bits.
 fn known_first(first: i32)
     ensures { FitsSigned w32 first }
 {}
 
 impl Kind {
-    // Its first value has 32 bits.
+    // The initial value fits 32 bits.
     fn lemma_invariant(self)
         ensures { HasFirst self }
     {
@@ -242,7 +242,7 @@ impl Kind {
 }
 
 impl<A: Allocator> Class<A> {
-    // Its sets are sets: a fact of the types of its fields.
+    // States the invariants of the class's set-valued fields.
     fn lemma_invariant(&self)
         ensures { HasSets self.now }
     {
@@ -275,7 +275,7 @@ fn fault_where(is_there: bool, fault: ModelFault) -> Option<ModelFault>
     if is_there { Some(fault) } else { None }
 }
 
-// Whether one of these start edges is of a begin kind.
+// Whether one of the start edges is of a begin kind.
 fn has_begin_edge(edges: &[StartEdge]) -> bool
     ensures { result ≡ has_begin_edge edges.now }
 {
@@ -290,7 +290,7 @@ impl<A: Allocator> Class<A> {
         has_begin_edge(self.spawn_edges.as_slice()) || has_begin_edge(self.split_edges.as_slice())
     }
 
-    // Whether the class commits to parents, and some of its transactions have none.
+    // Whether the class commits to parents, but its transactions can start without one.
     fn lacks_parents(&self) -> bool
         ensures { result ≡ lacks_parents self.now }
     {
@@ -305,14 +305,14 @@ fn have_begin_kinds<A: Allocator>(classes: &[Class<A>]) -> bool
     classes.iter().any(|class| class.has_begin_kind())
 }
 
-// Whether one of the classes commits to parents that some of its transactions do not have.
+// Whether one of the classes commits to parents that its transactions may lack.
 fn have_heirless<A: Allocator>(classes: &[Class<A>]) -> bool
     ensures { result ≡ list_any lacks_parents classes.now }
 {
     classes.iter().any(|class| class.lacks_parents())
 }
 
-// Whether the policy of one of the classes is none that a model can have.
+// Whether one of the classes has a policy that no model can have.
 fn have_bad_policies<A: Allocator>(classes: &[Class<A>]) -> bool
     ensures { result ≡ list_any (λ class. is_bad_policy class.policy) classes.now }
 {
@@ -343,7 +343,7 @@ impl<A: Allocator> Parts<A> {
 }
 
 impl<A: Allocator> Model<A> {
-    /// The model of these parts, or their lowest fault. Takes no memory.
+    /// Checks the parts. Returns the model, or the lowest fault. Allocates nothing.
     pub fn check(parts: Parts<A>) -> Result<Model<A>, ModelFault>
         ensures ok { IfOk result (λ model. model ≡ parts) }
         ensures faultless { OnOk result (lowest_fault parts ≡ None) }
@@ -355,8 +355,8 @@ impl<A: Allocator> Model<A> {
         }
     }
 
-    /// What holds of each model, for laws that need it: its parts have no fault, its first values are numbers of 32
-    /// bits, no set has a bit that no kind has, and start edges stand in order, each once. Changes nothing.
+    /// States what holds of every model: its parts have no fault, initial values fit 32 bits, each set has only bits
+    /// that belong to a kind, and start edges are sorted without repeats. Changes nothing.
     pub fn lemma_invariant(&self)
         ensures { AreOfModel self.now }
     {
@@ -380,7 +380,7 @@ impl<A: Allocator> Model<A> {
         self.parts.classes.as_slice()
     }
 
-    /// Whether some class may form edges by events of their own.
+    /// Whether some class may do form events.
     pub fn may_form(&self) -> bool
         ensures { result ≡ list_any (can_do EventKind.Form) self.now.classes }
     {
@@ -389,14 +389,14 @@ impl<A: Allocator> Model<A> {
             .any(|class| class.may.has(EventKind::Form))
     }
 
-    /// The object with this number; `None` where the model has none.
+    /// The object with this number, or `None` if the model has none.
     pub fn object(&self, id: ObjId) -> Option<&Object<A>>
         ensures { option_map (λ object. object.now) result ≡ object_at self.now id.0 }
     {
         self.objects().get(usize::from(id.0))
     }
 
-    /// The class with this number; `None` where the model has none.
+    /// The class with this number, or `None` if the model has none.
     pub fn class(&self, id: ClassId) -> Option<&Class<A>>
         ensures { option_map (λ class. class.now) result ≡ class_at self.now id.0 }
     {
@@ -405,7 +405,7 @@ impl<A: Allocator> Model<A> {
 }
 
 impl<A: Allocator + Copy> Object<A> {
-    /// The same object, in memory of its own.
+    /// Returns a copy of the object.
     pub fn copy(&self) -> Result<Object<A>, AllocError>
         ensures { IfOk result (λ object. object ≡ self.now) }
     {
@@ -417,7 +417,7 @@ impl<A: Allocator + Copy> Object<A> {
 }
 
 impl<A: Allocator + Copy> Class<A> {
-    /// The same class, in memory of its own.
+    /// Returns a copy of the class.
     pub fn copy(&self) -> Result<Class<A>, AllocError>
         ensures { IfOk result (λ class. class ≡ self.now) }
     {
@@ -462,7 +462,7 @@ fn copy_classes<A: Allocator + Copy>(
 }
 
 impl<A: Allocator + Copy> Model<A> {
-    /// The same model, in memory of its own.
+    /// Returns a copy of the model.
     pub fn copy(&self) -> Result<Model<A>, AllocError>
         ensures { IfOk result (λ model. model ≡ self.now) }
     {

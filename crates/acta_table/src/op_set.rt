@@ -9,7 +9,7 @@ use crate::items::Items;
 use std::alloc::{AllocError, Allocator};
 use std::collections::BTreeSet;
 
-/// A set of operation numbers, which contracts see as the numbers, ascending, each once.
+/// A set of operation numbers. Contracts see the numbers in ascending order, each once.
 #[derive(Drop)]
 pub struct OpSet<A: Allocator> {
     ops: Items<OpNo, A>,
@@ -40,7 +40,7 @@ fn ordered<A: Allocator + Copy>(alloc: A, ops: &[OpNo]) -> Result<BTreeSet<u32, 
     Ok(set)
 }
 
-// The elements of such a set, in order.
+// The elements of the ordered set, ascending.
 fn listed<A: Allocator + Copy>(alloc: A, set: &BTreeSet<u32, A>) -> Result<Vec<OpNo, A>, AllocError>
     ensures listed { IfOk result (λ ops. ops.items ≡ numbered set.now.keys) }
     ensures ascending { IsStrictlySortedBy nat_cmp set.now.keys }
@@ -52,7 +52,7 @@ fn listed<A: Allocator + Copy>(alloc: A, set: &BTreeSet<u32, A>) -> Result<Vec<O
     Ok(ops)
 }
 
-// Whether each number stands before the next, and below it.
+// Whether the numbers are strictly ascending.
 fn ascend(ops: &[OpNo]) -> bool
     ensures { IsTrue result → IsStrictlySortedBy nat_cmp (numbers_of ops.now) }
 {
@@ -67,7 +67,7 @@ impl<A: Allocator> OpSet<A> {
         self.as_slice() == other.as_slice()
     }
 
-    /// Whether the operation of this number is among them.
+    /// Whether the operation with this number is in the set.
     pub fn has_number(&self, number: usize) -> bool
         ensures { result ≡ is_named self.now number }
     {
@@ -86,11 +86,11 @@ impl<A: Allocator> OpSet<A> {
 }
 
 impl<A: Allocator + Copy> OpSet<A> {
-    /// The set of these numbers. Any number may stand in it, also one that no operation has.
+    /// The set of these numbers. Numbers of operations that do not exist are allowed.
     pub fn of(alloc: A, ops: &[OpNo]) -> Result<OpSet<A>, AllocError>
         ensures { IfOk result (λ set. set ≡ each_once ops.now) }
     {
-        // (nearly always they stand in order, as a set is written)
+        // (fast path: sets are nearly always written in ascending order)
         if ascend(ops) {
             return Ok(OpSet {
                 ops: Items::of(Vec::from_slice(alloc, ops)?),
@@ -102,7 +102,7 @@ impl<A: Allocator + Copy> OpSet<A> {
         })
     }
 
-    /// The same set, in memory of its own.
+    /// Returns a copy of the set.
     pub fn copy(&self) -> Result<OpSet<A>, AllocError>
         ensures { IfOk result (λ set. set ≡ self.now) }
     {

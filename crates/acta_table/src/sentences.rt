@@ -1,4 +1,4 @@
-//! Rules, kinds of dependency and faults of models in words: what each is called, and what it says in a sentence.
+//! Names and one-sentence descriptions of rules, kinds of dependency and model faults.
 
 ghost use Rattle.std.specs.Prelude.{◌≡◌};
 ghost use Rattle.acta_table.specs.Numbers.{rule_name};
@@ -46,7 +46,7 @@ impl Rule {
         }
     }
 
-    /// What is so of an event that breaks the rule, in a sentence.
+    /// Describes in a sentence an event that breaks the rule.
     pub fn sentence(self) -> &'static str {
         match self {
             Rule::Full => "The history has 65,536 events, the most that it may have.",
@@ -132,7 +132,7 @@ impl fmt::Display for Rule {
 }
 
 impl Dep {
-    /// What an edge of the kind, of J on I, asks of a history, in a sentence.
+    /// Describes in a sentence what an edge of the kind, of J on I, requires of a history.
     pub fn sentence(self) -> &'static str {
         match self {
             Dep::Cd => "For an edge CD J on I: where both commit, I commits before J.",
@@ -171,7 +171,7 @@ impl ModelFault {
         }
     }
 
-    /// When a model has the fault, in a sentence.
+    /// Describes in a sentence when a model has the fault.
     pub fn sentence(self) -> &'static str {
         match self {
             ModelFault::NoClass => "There is no class.",

@@ -11,9 +11,9 @@ use std::alloc::{AllocError, Allocator};
 /// Which of the two transactions of a start depends on the other.
 #[derive(Clone, Copy, PartialEq, Eq, Debug)]
 pub enum Dependent {
-    /// The one that starts the other.
+    /// The transaction that starts the other.
     Starter,
-    /// The one that is started.
+    /// The transaction that is started.
     Started,
 }
 
@@ -28,7 +28,7 @@ impl Dependent {
     }
 }
 
-/// A dependency that is formed where one transaction starts another.
+/// A dependency that is formed when one transaction starts another.
 #[derive(Clone, Copy, PartialEq, Eq, Debug)]
 pub struct StartEdge {
     pub kind: Dep,
@@ -36,28 +36,28 @@ pub struct StartEdge {
 }
 
 impl StartEdge {
-    /// Whether the two are one: of the same kind, in the same direction.
+    /// Whether the two are equal: same kind, same direction.
     pub fn is_same(&self, other: &StartEdge) -> bool
         ensures { result ≡ same_start_edge self.now other.now }
     {
         self.kind.code() == other.kind.code() && self.dependent.rank() == other.dependent.rank()
     }
 
-    // Whether it stands before the other in their order.
+    // Whether this start edge comes before the other: by kind code, then the starter's first.
     fn is_before(&self, other: &StartEdge) -> bool
         ensures { result ≡ is_lt (start_edge_cmp self.now other.now) }
     {
         (self.kind.code(), self.dependent.rank()) < (other.kind.code(), other.dependent.rank())
     }
 
-    /// Whether it is among these.
+    /// Whether this start edge is in the list.
     pub fn is_among(&self, edges: &[StartEdge]) -> bool
         ensures { result ≡ is_listed edges.now self.now }
     {
         edges.iter().any(|edge| self.is_same(edge))
     }
 
-    /// The edge that it means, between the one that starts and the one that is started.
+    /// The edge to form between the starting transaction and the started one.
     pub fn between(&self, starter: TxnId, started: TxnId) -> Edge
         ensures { result ≡ edge_between starter started self.now }
     {
@@ -73,8 +73,8 @@ impl StartEdge {
     }
 }
 
-/// A set of start edges, which contracts see as a list: each once, by the code of the kind, and of one
-/// kind the starter's first.
+/// A set of start edges. Contracts see a list without repeats, sorted by kind code, and the starter's first within a
+/// kind.
 #[derive(Drop)]
 pub struct StartEdges<A: Allocator> {
     edges: Items<StartEdge, A>,
@@ -93,7 +93,7 @@ impl<A: Allocator> std::marker::Model for StartEdges<A> {
     ghost invariant = { λ s. IsStrictlySortedBy start_edge_cmp s.edges };
 }
 
-// Appends the two start edges of a kind, as far as they are listed.
+// Appends those of the kind's two start edges that are listed.
 fn push_listed<A: Allocator>(
     edges: &[StartEdge],
     kind: Dep,
@@ -118,7 +118,7 @@ fn push_listed<A: Allocator>(
     Ok(())
 }
 
-// The listed ones, each once, in order.
+// The listed start edges, sorted, each once.
 fn in_order<A: Allocator>(alloc: A, edges: &[StartEdge]) -> Result<Vec<StartEdge, A>, AllocError>
     ensures { IfOk result (λ listed. listed.items ≡ each_start_edge_once edges.now) }
 {
@@ -129,7 +129,7 @@ fn in_order<A: Allocator>(alloc: A, edges: &[StartEdge]) -> Result<Vec<StartEdge
     Ok(listed)
 }
 
-// Whether each stands before the next in their order.
+// Whether the start edges are strictly ascending.
 fn ascend(edges: &[StartEdge]) -> bool
     ensures { IsTrue result ↔ IsStrictlySortedBy start_edge_cmp edges.now }
 {
@@ -137,7 +137,7 @@ fn ascend(edges: &[StartEdge]) -> bool
 }
 
 impl<A: Allocator> StartEdges<A> {
-    /// No edge. Takes no memory.
+    /// The empty set. Allocates nothing.
     pub fn new(alloc: A) -> StartEdges<A>
         ensures { result ≡ [] }
     {
@@ -155,8 +155,8 @@ impl<A: Allocator> StartEdges<A> {
         })
     }
 
-    /// The set of start edges that stand in its order already, each once; `None` where they do not. Takes no memory and
-    /// sorts nothing.
+    /// The set of these start edges if they are sorted and without repeats, otherwise `None`. Allocates nothing and
+    /// does not sort.
     pub fn ascending(edges: Vec<StartEdge, A>) -> Option<StartEdges<A>>
         ensures same { IfSome result (λ set. set ≡ edges.items) }
         ensures known { IsSome result ↔ IsStrictlySortedBy start_edge_cmp edges.items }
@@ -170,7 +170,7 @@ impl<A: Allocator> StartEdges<A> {
         }
     }
 
-    /// The start edges, each once, in order.
+    /// The start edges, sorted, each once.
     pub fn as_slice(&self) -> &[StartEdge]
         ensures items { result.now ≡ self.now }
         ensures ascending { IsStrictlySortedBy start_edge_cmp self.now }
@@ -180,7 +180,7 @@ impl<A: Allocator> StartEdges<A> {
 }
 
 impl<A: Allocator + Copy> StartEdges<A> {
-    /// The edges that they mean between the one that starts and the one that is started, in order.
+    /// The edges to form between the starting transaction and the started one, in order.
     pub fn between(
         &self,
         alloc: A,
@@ -196,7 +196,7 @@ impl<A: Allocator + Copy> StartEdges<A> {
         Ok(between)
     }
 
-    /// The same set, in memory of its own.
+    /// Returns a copy of the set.
     pub fn copy(&self) -> Result<StartEdges<A>, AllocError>
         ensures { IfOk result (λ set. set ≡ self.now) }
     {

@@ -1,5 +1,4 @@
-//! The calls that promise most, each in a function of its own that says nothing of its result: what tests show is
-//! compared when they run.
+//! The functions with the strongest contracts, each wrapped in a function without one: tests compare results when they run.
 
 use acta_axioms::{Places, SerialItem, Walk};
 use acta_deps::Deps;
@@ -21,7 +20,7 @@ pub fn run_on<A: Handle>(
     Machine::run(alloc, model.copy()?, events)
 }
 
-/// What the machine answers the event.
+/// The machine's answer to the event.
 pub fn take<A: Handle>(machine: &mut Machine<A>, event: &Event<A>) -> Result<Answer, AllocError> {
     machine.take(event)
 }
@@ -34,7 +33,7 @@ pub fn why<A: Handle>(
     machine.why(event)
 }
 
-/// A chain of those who wait for one another, from the transaction on.
+/// A chain of waiting transactions from this one on that ends in a cycle.
 pub fn waits_for_cycle<A: Handle>(
     machine: &Machine<A>,
     t: TxnId,
@@ -57,7 +56,7 @@ pub fn permits_of<A: Handle>(machine: &Machine<A>) -> Result<Vec<Permit, A>, All
     machine.permits()
 }
 
-/// What the machine says is owed.
+/// The machine's debts.
 pub fn owed_by<A: Handle>(machine: &Machine<A>) -> Result<Vec<Owed, A>, AllocError> {
     machine.owed()
 }
@@ -67,7 +66,7 @@ pub fn serial_of<A: Handle>(machine: &Machine<A>) -> Result<Items<SerialItem, A>
     machine.serial()
 }
 
-/// A walk that stands before a list, which is no longer than a history may be.
+/// A walk before its first step, on a list that is no longer than a history may be.
 pub fn walk_of<'a, A: Handle>(
     alloc: A,
     model: &'a Model<A>,

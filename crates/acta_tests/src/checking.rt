@@ -1,4 +1,4 @@
-//! Checked models: a model of parts, and the fault of parts that no text can say; neither takes memory.
+//! Checked models: a model from its parts, and a fault of parts that no text can have; neither allocates.
 
 use crate::expecting::{holds, made, same};
 use crate::models::model_of;
@@ -8,7 +8,7 @@ use refusing::Refusing;
 use std::alloc::Allocator;
 use std::process::Abort;
 
-// A register `x`, and the class of flat transactions so often.
+// A register `x`, and `classes` copies of the class of flat transactions.
 fn parts_of<A: Allocator + Copy>(rt: &impl Abort, alloc: A, classes: u8) -> Parts<A> {
     let name = Items::of(made(rt, Vec::from_slice(alloc, b"x"), "a name"));
     let (mut objects, mut found): (Vec<Object<A>, A>, Vec<Class<A>, A>) = (

@@ -11,7 +11,7 @@ use acta_table::{Dep, Event, Kept, Model, ObjId, TxnId};
 use std::alloc::{AllocError, Allocator, Global};
 use std::process::Abort;
 
-/// A debugger on the list, in a function of its own, so that callers need not read all that is known of a new one.
+/// A debugger on the list, in a function of its own, so that callers need not load its contract.
 pub fn opened<A: Handle>(
     alloc: A,
     model: Model<A>,
@@ -20,7 +20,7 @@ pub fn opened<A: Handle>(
     Debugger::new(alloc, model, list)
 }
 
-/// A debugger on what a machine keeps of the events, in a function of its own too.
+/// A debugger on a machine's history of the events, in a function of its own too.
 pub fn on_events<A: Handle>(
     alloc: A,
     model: Model<A>,
@@ -29,14 +29,14 @@ pub fn on_events<A: Handle>(
     Debugger::of_events(alloc, model, events)
 }
 
-/// A debugger on the history of the lines, of the model that the text means.
+/// A debugger on the history of the lines, on the model of the text.
 pub fn debugger_of<A: Handle>(rt: &impl Abort, alloc: A, model: &str, text: &str) -> Debugger<A> {
     let model = model_of(rt, alloc, model);
     let history = items_of(rt, alloc, &model, text);
     made(rt, opened(alloc, model, history), "a debugger")
 }
 
-/// Events, of which the third and the sixth are refused.
+/// Events, the third and the sixth of which are refused.
 pub const EVENTS: &str = "\
 form SCD 2 1
 begin 1 try
@@ -47,7 +47,7 @@ commit 7
 commit 1
 commit 2";
 
-// Transaction 2 owes a commit after place 4, which it pays at place 5; and a third begins.
+// After place 4 transaction 2 owes a commit, which it pays at place 5; and a third begins.
 const PAID: &str = "\
 form SCD 2 1
 begin 1 try
@@ -57,7 +57,7 @@ commit 2
 begin 3 try
 ";
 
-/// The kept lines of a history with so many additions of 1 to n.
+/// The kept lines of a history with this many additions of 1 to n.
 pub fn sums(rt: &impl Abort, other: Global, times: u32) -> String {
     let mut text = made(rt, String::from_str(other, PAID), "a text");
     for _ in 0..times {
@@ -77,7 +77,7 @@ fn break_of(on: BreakOn) -> Break {
     }
 }
 
-// How a move ended. `Err` where memory ran out.
+// How a move ended. `Err` if memory ran out.
 fn moved(other: Global, done: Result<(), MoveError>) -> Result<String, AllocError> {
     match done {
         Ok(()) => Ok(String::new(other)),
@@ -102,7 +102,7 @@ fn ran<A: Handle>(other: Global, debugger: &mut Debugger<A>) -> Result<String, A
     format!(in other; "{stop:?} ")
 }
 
-/// What the debugger answers to a command that moves it, or that adds a break. `Err` where memory ran out.
+/// The debugger's answer to a command that moves it, or that adds a break. `Err` if memory ran out.
 pub fn answer<A: Handle>(
     other: Global,
     debugger: &mut Debugger<A>,
@@ -118,7 +118,7 @@ pub fn answer<A: Handle>(
     }
 }
 
-/// The answer, where the debugger then stands, and the value of n there.
+/// The answer, the place of the debugger after it, and the value of n there.
 pub fn at_and_sum<A: Handle>(
     rt: &impl Abort,
     other: Global,
@@ -132,8 +132,8 @@ pub fn at_and_sum<A: Handle>(
     text
 }
 
-// Lists, each under the first place at which it is no history: an event that is refused; a return that is another, that
-// lacks, or where none is due; and an event that would be admitted again.
+// Lists, each after the first place at which it is no history: a refused event; a return that is wrong, missing or not due;
+// and a refused event before one that would be admitted.
 const OTHERS: &str = "\
 1
 commit 1
@@ -170,7 +170,7 @@ do 1 n add 1 = done
 do 1 n get = 2
 commit 1";
 
-// The list of the text, which is a place and the lines, is no history at that place.
+// The text has a place and lines, which are no history from that place on.
 fn is_other<A: Handle>(rt: &impl Abort, alloc: A, text: &str) {
     let (place, lines) = parted(rt, text, "\n");
     let model = model_of(rt, alloc, Standard::Atomic.text());
@@ -180,7 +180,7 @@ fn is_other<A: Handle>(rt: &impl Abort, alloc: A, text: &str) {
     same(rt, &found, &Some(due), text);
 }
 
-// A debugger on a list that forms one edge so often.
+// A debugger on a list that forms one edge this many times.
 fn on_forms<A: Handle>(rt: &impl Abort, alloc: A, times: u32) -> Result<Debugger<A>, NewError> {
     let model = model_of(rt, alloc, Standard::Contingent.text());
     let mut list = Vec::new(alloc);

@@ -1,4 +1,4 @@
-//! As many edges as there may be: all of them are found, and one more is refused, but none where it is in force already.
+//! The greatest number of edges: all of them are found, and a further one is refused, unless it is already in force.
 
 use crate::calls::{new_machine, take};
 use crate::expecting::{made, same};
@@ -8,7 +8,7 @@ use acta_models::Standard;
 use acta_table::{Answer, Dep, Event, LAST_TXN, MOST_EDGES, Rule, TxnId};
 use std::process::Abort;
 
-// What the machine answers where an edge of this kind is to be formed on the first transaction.
+// The machine's answer if an edge of this kind on the first transaction is formed.
 fn form_on_first<A: Handle>(
     rt: &impl Abort,
     machine: &mut Machine<A>,
@@ -19,7 +19,7 @@ fn form_on_first<A: Handle>(
     made(rt, take(machine, &event), "an edge")
 }
 
-// Forms an edge of this kind on the first transaction by each of those from the second on, up to this one.
+// Forms an edge of this kind on the first transaction from each one from the second up to this one.
 fn form_up_to<A: Handle>(rt: &impl Abort, machine: &mut Machine<A>, kind: Dep, last: u16) {
     for j in 2..=last {
         form_on_first(rt, machine, kind, j);

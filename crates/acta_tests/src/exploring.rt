@@ -1,5 +1,5 @@
-//! Searches through all orders of the steps of programs. What a search answers of random programs is compared with all
-//! orders, each tried on a machine of its own.
+//! Searches through all orders of the steps of programs. The results for random programs are compared with all orders, each
+//! tried on a machine of its own.
 
 mod circles;
 mod drawn;
@@ -20,10 +20,10 @@ use rand_pcg::Pcg32;
 use std::alloc::{Allocator, Global};
 use std::process::Abort;
 
-/// How many seats there may be.
+/// The most seats.
 pub const SEATS: u8 = 4;
 
-// More points than any search here has.
+// An upper bound on the points of any search here.
 const MOST: u32 = 100_000;
 
 // How many programs are drawn for a standard model.
@@ -32,7 +32,7 @@ const DRAWN: u32 = 24;
 // How many are drawn for another model.
 const FEW: u32 = 6;
 
-// What a transaction does. The number of the seat stands for T, mostly, and that of some transaction for U.
+// The moves of a transaction. T mostly stands for the number of the seat, and U for that of some transaction.
 const FLAT: &str = "\
 begin T flat
 do T x read
@@ -124,7 +124,7 @@ do T n get
 commit T
 abort T";
 
-/// The programs that the lines say.
+/// The programs of these lines.
 pub fn programs_of<A: Allocator + Copy>(
     rt: &impl Abort,
     alloc: A,
@@ -139,7 +139,7 @@ pub fn programs_of<A: Allocator + Copy>(
     programs
 }
 
-// The text of the end of all orders that reach the outcome of this text.
+// The end of all orders whose outcome has this text.
 fn end_reported<'a, A: Allocator>(ends: &'a [End<A>], rendered: &str) -> Option<&'a End<A>> {
     for end in ends {
         if end.rendered.as_str() == rendered {
@@ -149,7 +149,7 @@ fn end_reported<'a, A: Allocator>(ends: &'a [End<A>], rendered: &str) -> Option<
     None
 }
 
-// The end at the place is one that some order reaches, and its order is the first of all that do.
+// Some order reaches the end at the place, and its order is the first that does.
 fn is_first<A: Handle>(
     rt: &impl Abort,
     (alloc, other): (A, Global),
@@ -175,7 +175,7 @@ fn is_ascending<A: Handle>(rt: &impl Abort, explored: &Explored<A>, place: usize
     }
 }
 
-// The ends of a search are those of all orders: each outcome once, with the first order, and in the order of these.
+// The ends of a search are those of all orders: each outcome once, with its first order, sorted by these orders.
 fn are_all<A: Handle>(
     rt: &impl Abort,
     (alloc, other): (A, Global),
@@ -200,7 +200,7 @@ fn are_all<A: Handle>(
     drop(ends);
 }
 
-/// How many points a search has; nothing where there are more than `most`.
+/// The number of points of a search; `None` if there are more than `most`.
 pub fn points_within<A: Handle>(
     rt: &impl Abort,
     alloc: A,
@@ -221,7 +221,7 @@ pub fn points_within<A: Handle>(
     }
 }
 
-// So many points may be searched, and not one less.
+// This many points suffice for a search, and one less does not.
 fn are_needed<A: Handle>(
     rt: &impl Abort,
     alloc: A,
@@ -236,7 +236,7 @@ fn are_needed<A: Handle>(
     same(rt, &found, &None, title);
 }
 
-// A search of these programs is compared with all orders. Returns how many ends there are.
+// Compares a search of these programs with all orders. Returns the number of ends.
 fn compare<A: Handle>(
     rt: &impl Abort,
     (alloc, other): (A, Global),
@@ -258,7 +258,7 @@ fn compare<A: Handle>(
     ends
 }
 
-// So many random programs on the model that the text means.
+// This many random programs on the model of the text.
 fn compare_drawn<A: Handle>(
     rt: &impl Abort,
     (alloc, other): (A, Global),
@@ -329,7 +329,7 @@ fn nothing_to_do(rt: HostRuntime) {
     drop(model);
 }
 
-/// Four registers, and transactions that are refused where they conflict.
+/// Four registers, and transactions that refuse conflicts.
 pub const FOUR: &str = "\
 object x1 register 0
 object x2 register 0
@@ -363,7 +363,7 @@ const APART: &str = "\
 4 do 4 x4 read
 4 commit 4";
 
-// Four programs that have nothing in common have 63,063,000 orders, of which each leads through 5 * 5 * 5 * 5 points.
+// Four programs without common objects have 63,063,000 orders, all through the same 5 * 5 * 5 * 5 points.
 #[test]
 fn orders_that_merge(rt: HostRuntime) {
     let model = model_of(&rt, rt.alloc(), FOUR);
@@ -380,7 +380,7 @@ fn orders_that_merge(rt: HostRuntime) {
     drop(model);
 }
 
-// With no room at all the first point is too many.
+// If no point is allowed, the first one is too many.
 #[test]
 fn no_points(rt: HostRuntime) {
     let model = model_of(&rt, rt.alloc(), FOUR);

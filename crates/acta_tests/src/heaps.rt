@@ -1,9 +1,9 @@
-//! The allocator that refuses one chosen allocation, which other tests stand on.
+//! The allocator that refuses one chosen allocation, on which other tests depend.
 
 use crate::expecting::{holds, same};
 use refusing::Refusing;
 
-// A refused allocation leaves the list as it was.
+// A refused allocation leaves the list unchanged.
 #[test]
 fn refuses_one_allocation(rt: HostRuntime) {
     let heap = Refusing::new(rt.alloc());
@@ -20,7 +20,7 @@ fn refuses_one_allocation(rt: HostRuntime) {
 
 fn shared<T: Sync>(_: &T) {}
 
-// A `&` to it may be held by several threads.
+// Several threads may hold a `&` to it.
 #[test]
 fn may_be_shared(rt: HostRuntime) {
     shared(&Refusing::new(rt.alloc()));

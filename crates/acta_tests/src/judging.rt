@@ -1,5 +1,5 @@
-//! Tests of the judge: what machines keep has no fault, and long lists are judged. The program's cases have verdicts on
-//! histories from elsewhere.
+//! Tests of the judge: histories of machines have no fault, and long lists are judged. Verdicts on other histories are
+//! tested by the program's cases.
 
 pub mod limits;
 pub mod lists;
@@ -38,7 +38,7 @@ pub fn lines_of<A: Allocator>(rt: &impl Abort, other: Global, verdict: &Verdict<
     text
 }
 
-/// The history of the machine is judged to have no fault, and to owe what the machine owes.
+/// The verdict on the machine's history has no fault, and the machine's debts.
 pub fn is_faultless<A: Handle + Send + Sync>(
     rt: &(impl Threads + Sync + Abort),
     (alloc, other): (A, Global),

@@ -2,8 +2,8 @@
 //! each call, and the edges of checked models. What the program shows of histories is tested by `cases/`, which takes no
 //! proof.
 //!
-//! A helper that owns a machine, a walk, a book or a debugger gives it to `drop` at its end: otherwise each of its parts
-//! is dropped there, and each drop is proved there.
+//! A helper that owns a machine, a walk, a book or a debugger passes it to `drop` at its end: otherwise each of its parts is
+//! dropped there, and each drop is proved there.
 #![tactic(auto)]
 
 #[cfg(test)]

@@ -1,4 +1,4 @@
-//! Models of the tests, as texts, and what is read of texts and lines.
+//! The models of the tests, as texts, and parsed texts and lines.
 
 use crate::expecting::made;
 use acta_lang::assemble;
@@ -7,7 +7,7 @@ use acta_table::{Event, Kept, Model};
 use std::alloc::Allocator;
 use std::process::Abort;
 
-/// Flat transactions that form edges and delegate all that they hold.
+/// Flat transactions that form edges and must delegate all their operations.
 pub const DELEGATING: &str = "\
 object x register 0
 object n counter 0
@@ -23,7 +23,7 @@ delegation whole
 end
 ";
 
-/// Transactions that split with an edge in either direction, hand over the whole, and form edges.
+/// Transactions that split with edges in both directions, must transfer all operations, and form edges.
 pub const PARTING: &str = "\
 object x register 0
 object n counter 0
@@ -83,9 +83,9 @@ delegation whole
 end
 ";
 
-/// Families: nested transactions with no edges at a spawn, which also delegate, join and form edges; those of `top`
-/// split too, or are split off, and hand over as much as they like. And the class `leaf`, of those that are spawned,
-/// and otherwise are flat.
+/// Families: nested transactions with no edges at a spawn, which also delegate, join and form edges; those of `top` also
+/// split or are split off, and may transfer any operations. The class `leaf` has spawned transactions that are otherwise
+/// flat.
 pub const FAMILIES: &str = "\
 object x register 0
 object n counter 0
@@ -117,8 +117,8 @@ delegation whole
 end
 ";
 
-/// Transactions that lend: they depend by CD and WD on holders, spawn others of their class, delegate as much as they
-/// like, and are in conflict with none of their ancestors.
+/// Transactions that lend: they depend by CD and WD on holders, spawn others of their class, may delegate any operations,
+/// and exempt their ancestors.
 pub const LENDING: &str = "\
 object x register 0
 object n counter 0
@@ -150,7 +150,7 @@ delegation whole
 end
 ";
 
-/// Transactions that permit, and hand over as much as they like. And the class `quiet`, of those that are flat.
+/// Transactions that permit, and may transfer any operations. The class `quiet` has flat ones.
 pub const SHARING: &str = "\
 object x register 0
 object n counter 0
@@ -214,7 +214,7 @@ delegation whole
 end
 ";
 
-// With this at its end, a model's text means one object and one class more.
+// Appended to a model's text, this declares one more object and one more class.
 const MORE: &str = "\
 object nowhere register 0
 class stranger
@@ -227,25 +227,25 @@ delegation whole
 end
 ";
 
-/// A model, and the wider one by which its lines are read. That one has the object `nowhere` and the class `stranger`
-/// too, so that a line can name what the model lacks.
+/// A model, and a larger one on which its lines are parsed. The larger one also has the object `nowhere` and the class
+/// `stranger`, so that a line can name what the model lacks.
 #[derive(Drop)]
 pub struct Models<A: Allocator> {
     pub model: Model<A>,
     pub wider: Model<A>,
 }
 
-/// The model that the text means.
+/// The model of the text.
 pub fn model_of<A: Allocator + Copy>(rt: &impl Abort, alloc: A, text: &str) -> Model<A> {
     made(rt, assemble(alloc, text.as_bytes()), "a model")
 }
 
-/// The same. Nothing where memory ran out.
+/// The same. `None` if memory ran out.
 pub fn assembled<A: Allocator + Copy>(alloc: A, text: &str) -> Option<Model<A>> {
     assemble(alloc, text.as_bytes()).ok()
 }
 
-/// The event that the line says.
+/// The event of the line.
 pub fn event_of<A: Allocator + Copy>(
     rt: &impl Abort,
     alloc: A,
@@ -255,7 +255,7 @@ pub fn event_of<A: Allocator + Copy>(
     made(rt, read_event(alloc, model, line.as_bytes()), line)
 }
 
-/// The events that the lines say.
+/// The events of the lines.
 pub fn events_of<A: Allocator + Copy>(
     rt: &impl Abort,
     alloc: A,
@@ -270,7 +270,7 @@ pub fn events_of<A: Allocator + Copy>(
     events
 }
 
-/// The kept items that the lines say.
+/// The kept items of the lines.
 pub fn items_of<A: Allocator + Copy>(
     rt: &impl Abort,
     alloc: A,
@@ -286,7 +286,7 @@ pub fn items_of<A: Allocator + Copy>(
 }
 
 impl<A: Allocator + Copy> Models<A> {
-    /// The model that the text means, and the wider one.
+    /// The model of the text, and the larger one.
     pub fn of(rt: &impl Abort, alloc: A, text: &str) -> Models<A> {
         let mut more = made(rt, String::from_str(alloc, text), "a text");
         made(rt, more.push_str(MORE), "a text");

@@ -1,5 +1,5 @@
-//! Events that name a class or an object that the model lacks, which no line can do: each with the reason that the machine
-//! gives beforehand, and its answer.
+//! Events that name a class or an object that the model lacks, which no line can do: each with the machine's reason
+//! beforehand, and its answer.
 
 use crate::calls::{new_machine, take, why};
 use crate::expecting::{expect_text, made, same};
@@ -21,7 +21,7 @@ const LACKING: ClassId = ClassId(200);
 
 const NOWHERE: ObjId = ObjId(200);
 
-// What a reason is, in the words of `Debug`.
+// A reason as `Debug` prints it.
 fn spelled<A: Allocator + Copy>(rt: &impl Abort, alloc: A, reason: Option<Reason>) -> String<A> {
     match reason {
         Some(reason) => made(rt, format!(in alloc; "{reason:?}"), "a reason"),
@@ -131,7 +131,7 @@ fn has_begun_one<A: Handle>(rt: &impl Abort, machine: &Machine<A>) {
     same(rt, &value.is_none(), &true, "no value");
 }
 
-// All such events on a machine, of which one transaction has begun.
+// All such events on a machine with one transaction begun.
 fn name_badly<A: Handle>(rt: &impl Abort, alloc: A, text: &str) {
     let model = model_of(rt, alloc, text);
     let mut machine = made(rt, new_machine(alloc, &model), "a machine");

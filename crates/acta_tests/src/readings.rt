@@ -1,4 +1,4 @@
-//! What machines answer about sets of operations and edges, worked out by hand; each history is judged to be without
+//! Answers of machines about sets of operations and edges, worked out by hand; the verdict on each history must have no
 //! fault. A scenario is a title, events with their answers, and readings:
 //!
 //! ```text
@@ -210,7 +210,7 @@ fn txn(rt: &impl Abort, word: &str) -> TxnId {
     TxnId(word.parse().ok().expect(rt, word))
 }
 
-// Adds what the machine answers.
+// Adds the machine's answer.
 fn put_reading<A: Handle>(rt: &impl Abort, text: &mut String, machine: &Machine<A>, asked: &str) {
     let (word, rest) = asked.split_once(' ').unwrap_or((asked, "0"));
     match word {
@@ -234,7 +234,7 @@ fn put_reading<A: Handle>(rt: &impl Abort, text: &mut String, machine: &Machine<
     }
 }
 
-// The machine answers what the line asks.
+// Asks the machine the question of the line, and compares the answer.
 fn ask<A: Handle>(rt: &impl Abort, other: Global, machine: &Machine<A>, line: &str) {
     let (asked, due) = parted(rt, line, " --");
     let mut text = String::new(other);
@@ -242,7 +242,7 @@ fn ask<A: Handle>(rt: &impl Abort, other: Global, machine: &Machine<A>, line: &s
     expect_text(rt, text.as_bytes(), due, line);
 }
 
-// The machine takes the event of the line, and answers as the line says.
+// Gives the machine the event of the line, and compares the answer.
 fn answer<A: Handle>(rt: &impl Abort, alloc: A, machine: &mut Machine<A>, line: &str) {
     let (parsed, due) = parted(rt, line, " -- ");
     let event = event_of(rt, alloc, machine.model(), parsed);
@@ -269,7 +269,7 @@ fn machine_after<A: Handle>(
     machine
 }
 
-// The scenarios on the model that the text means.
+// Runs the scenarios on the model of the text.
 fn go<A: Handle + Send + Sync>(
     rt: &(impl Threads + Sync + Abort),
     (alloc, other): (A, Global),
@@ -304,7 +304,7 @@ fn sets_and_edges_of_machines(rt: HostRuntime) {
     }
 }
 
-// An operation that is handed on: its first places, and who holds it after each.
+// An operation that is delegated: its first places, and its holder after each.
 const HANDED: &str = "\
 begin 1 part
 begin 2 part
@@ -313,7 +313,7 @@ delegate 1 2 1
 join 1 2
 commit 2";
 
-// What places answer.
+// The answers of places.
 fn answers<A: Handle>(rt: &impl Abort, places: &Places<'_, A>) {
     let one = (places.start(TxnId(1)), places.join(TxnId(1)));
     same(rt, &one, &(Some(1), Some(5)), "the first transaction");

@@ -102,7 +102,7 @@ fn admits<A: Handle>(
     holds(rt, matches!(answer, Answer::Admitted { .. }), line);
 }
 
-// What a reason is, in the words of `Debug`.
+// A reason as `Debug` prints it.
 fn spelled<A: Handle>(rt: &impl Abort, alloc: A, reason: Option<Reason>, line: &str) -> String<A> {
     match reason {
         Some(reason) => made(rt, format!(in alloc; "{reason:?}"), line),

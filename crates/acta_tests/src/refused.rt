@@ -1,6 +1,6 @@
-//! Each allocation of a call refused in turn. A case is a call, the state that it starts from and the readers of that
-//! state: where an allocation is refused the call runs out of memory, the readers answer as before, and the same call
-//! then answers as it does where nothing is refused.
+//! Each allocation of a call refused in turn. A case is a call, its initial state and the readers of that state: if an
+//! allocation is refused, the call runs out of memory, the readers answer as before, and the same call then answers as it
+//! does when nothing is refused.
 
 mod books;
 mod debuggers;
@@ -40,8 +40,8 @@ pub fn refuse<B: Allocator, C: Case>(
 /// More allocations than any call among threads makes.
 pub const MOST: u64 = 4_000;
 
-/// For a call among threads, which no case can make: whether it answered `due` with no allocation refused, after
-/// `heap.refuse(nth)`. Where one was refused, it ran out of memory, or did without that memory and answered `due`.
+/// For a call in threads, which can't be a case: whether it answered `due` without a refused allocation, after
+/// `heap.refuse(nth)`. If one was refused, it ran out of memory, or did without it and answered `due`.
 pub fn is_over<B: Allocator>(
     rt: &impl Abort,
     heap: &Refusing<B>,
@@ -57,7 +57,7 @@ pub fn is_over<B: Allocator>(
     !was_refused
 }
 
-/// At least so many allocations were refused.
+/// At least this many allocations were refused.
 pub fn at_least(rt: &impl Abort, refused: u64, least: u64, calls: &str) {
     assert!(rt;
         refused >= least,
@@ -65,12 +65,12 @@ pub fn at_least(rt: &impl Abort, refused: u64, least: u64, calls: &str) {
     );
 }
 
-/// What is asked and the answer as `shown` has it, each part after a space.
+/// The question and the answer as `shown` has them, each part after a space.
 pub fn asked_and_answer<'a>(rt: &impl Abort, line: &'a str) -> (&'a str, &'a str) {
     parted(rt, line, " --")
 }
 
-/// A call and its answer, which stand on one line with `--` between them.
+/// A call and its answer, on one line with `--` between them.
 pub fn call_and_answer<'a>(rt: &impl Abort, line: &'a str) -> (&'a str, &'a str) {
     parted(rt, line, " -- ")
 }

@@ -1,4 +1,4 @@
-//! As many operations as a table has room for.
+//! The greatest number of operations in a table.
 
 use crate::expecting::{holds, made, same};
 use acta_machine::Handle;
@@ -11,14 +11,14 @@ const ONE: TxnId = TxnId(1);
 
 const THREE: TxnId = TxnId(3);
 
-// One more operation of t, where there is room.
+// One more operation of t, if there is room.
 fn add<A: Handle>(rt: &impl Abort, table: &mut OpTable<A>, t: TxnId, op: Op) {
     if table.operations().len() < MOST_EVENTS {
         made(rt, table.add(t, ObjId(0), op), "an operation");
     }
 }
 
-// One more addition by 1, unless something stands against it, or there is no room.
+// One more addition by 1, unless it conflicts, or there is no room.
 fn add_one<A: Handle>(rt: &impl Abort, table: &mut OpTable<A>, exempts: &BTreeSet<u16, A>) {
     let op = Op::Add(1);
     let against = table.first_conflict(ONE, exempts, ObjId(0), &op);
@@ -32,8 +32,8 @@ fn stands_first<A: Handle>(table: &OpTable<A>, exempts: &BTreeSet<u16, A>) -> bo
         && !table.has_conflict(ONE, exempts, ObjId(0), &Op::Get)
 }
 
-// One transaction adds as often as a history has room for but once: nothing stands against any of its additions, and the
-// first stands against a `get` of another.
+// One transaction adds as often as a history has room for, less one: none of its additions has a conflict, and the first
+// conflicts with a `get` of another.
 #[test]
 fn adds_without_end(rt: HostRuntime) {
     let mut table = OpTable::new(rt.alloc());

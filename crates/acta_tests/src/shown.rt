@@ -1,5 +1,5 @@
-//! What the readers of a value answer, as text: where two values answer the same, their texts are the same. Items stand
-//! in the words of `Debug`, each after a space.
+//! The answers of a value's readers, as text: equal answers have equal texts. Items are as `Debug` prints them, each after a
+//! space.
 
 use crate::calls::{copy_of_deps, owed_by, permits_of, serial_of};
 use crate::expecting::made;
@@ -16,7 +16,7 @@ use std::collections::BTreeSet;
 use std::fmt::Debug;
 use std::process::Abort;
 
-/// The transactions that are asked about: those of the histories, the last one, and two that are none.
+/// The transactions in questions: those of the histories, the last possible one, and two that don't exist.
 pub const TXNS: [TxnId; 9] = [
     TxnId(0),
     TxnId(1),
@@ -29,7 +29,7 @@ pub const TXNS: [TxnId; 9] = [
     TxnId(65_535),
 ];
 
-// The objects that are asked about: those of the models, and one that they lack.
+// The objects in questions: those of the models, and one that they lack.
 const OBJECTS: [ObjId; 5] = [ObjId(0), ObjId(1), ObjId(2), ObjId(3), ObjId(4)];
 
 // Operations of each kind of object.
@@ -58,7 +58,7 @@ pub fn put<T: Debug>(rt: &impl Abort, text: &mut String, value: &T) {
     made(rt, write!(text, " {value:?}"), "a text");
 }
 
-/// Adds what an object holds; nothing where there is no such object.
+/// Adds the value of an object; nothing if there is no such object.
 pub fn put_value<A: Allocator>(rt: &impl Abort, text: &mut String, value: Option<&ObjectState<A>>) {
     match value {
         Some(ObjectState::Register(value)) => put(rt, text, value),
@@ -157,7 +157,7 @@ fn put_serial<A: Handle>(rt: &impl Abort, text: &mut String, machine: &Machine<A
     }
 }
 
-/// What a machine answers.
+/// The answers of a machine.
 pub fn of_machine<A: Handle>(rt: &impl Abort, other: Global, machine: &Machine<A>) -> String {
     let mut text = String::new(other);
     put_lists(rt, &mut text, machine);
@@ -198,7 +198,7 @@ fn put_walked_op<A: Handle>(
     }
 }
 
-/// What a walk answers.
+/// The answers of a walk.
 pub fn of_walk<A: Handle>(rt: &impl Abort, other: Global, walk: &Walk<'_, A>) -> String {
     let mut text = String::new(other);
     put(rt, &mut text, &(walk.front().len(), walk.ahead().len()));
@@ -213,7 +213,7 @@ pub fn of_walk<A: Handle>(rt: &impl Abort, other: Global, walk: &Walk<'_, A>) ->
     text
 }
 
-/// What a table of operations is asked with: the transactions that are exempt, permits, and named operations.
+/// The arguments of questions to a table of operations: exempt transactions, permits, and named operations.
 #[derive(Drop)]
 pub struct Question<A: Handle> {
     exempt: BTreeSet<u16, A>,
@@ -271,7 +271,7 @@ impl<A: Handle> Question<A> {
         }
     }
 
-    /// What the table answers.
+    /// The answers of the table.
     pub fn of_table(&self, rt: &impl Abort, other: Global, table: &OpTable<A>) -> String {
         let mut text = String::new(other);
         put(rt, &mut text, &table.operations());
@@ -299,7 +299,7 @@ fn put_dependent<A: Handle>(rt: &impl Abort, text: &mut String, deps: &mut Deps<
     put(rt, text, &(deps.may_abort(t), deps.may_join(t)));
 }
 
-/// What a table of dependencies answers.
+/// The answers of a table of dependencies.
 pub fn of_deps<A: Handle>(rt: &impl Abort, other: Global, deps: &Deps<A>) -> String {
     let mut text = String::new(other);
     put(rt, &mut text, &deps.edges());
@@ -313,7 +313,7 @@ pub fn of_deps<A: Handle>(rt: &impl Abort, other: Global, deps: &Deps<A>) -> Str
     text
 }
 
-// Adds who permits a transaction to work on an object, as each reader has it.
+// Adds the transactions that permit a transaction to work on an object, as each reader returns them.
 fn put_permitters<A: Handle>(
     rt: &impl Abort,
     text: &mut String,
@@ -327,7 +327,7 @@ fn put_permitters<A: Handle>(
     }
 }
 
-// Adds what a table of permits answers, and what it would answer after each transaction has ended.
+// Adds the answers of a table of permits, and those after each transaction has ended.
 fn put_permits<A: Handle>(rt: &impl Abort, text: &mut String, permits: &Permits<A>) {
     for t in TXNS {
         let given = made(rt, permits.given_to(t), "permits");
@@ -338,7 +338,7 @@ fn put_permits<A: Handle>(rt: &impl Abort, text: &mut String, permits: &Permits<
     }
 }
 
-/// What a table of permits answers, and what it would answer once each transaction had ended.
+/// The answers of a table of permits, and those after each transaction has ended.
 pub fn of_permits<A: Handle>(rt: &impl Abort, other: Global, permits: &Permits<A>) -> String {
     let mut text = String::new(other);
     put_permits(rt, &mut text, permits);
@@ -358,14 +358,14 @@ pub fn put_entries<A: Allocator>(rt: &impl Abort, text: &mut String, entries: &[
     }
 }
 
-/// What a book answers.
+/// The answers of a book.
 pub fn of_book<A: Handle>(rt: &impl Abort, other: Global, book: &Book<A>) -> String {
     let mut text = of_machine(rt, other, book.machine());
     put_entries(rt, &mut text, book.entries());
     text
 }
 
-/// What a debugger answers.
+/// The answers of a debugger.
 pub fn of_debugger<A: Handle>(rt: &impl Abort, other: Global, debugger: &Debugger<A>) -> String {
     let mut text = of_machine(rt, other, debugger.machine());
     put(rt, &mut text, &(debugger.at(), debugger.last()));

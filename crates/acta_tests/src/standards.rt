@@ -52,8 +52,8 @@ fn class<A: Allocator + Copy>(rt: &impl Abort, alloc: A, name: &str, more: Kinds
     }
 }
 
-// The class `sub` of nested transactions that are spawned, and commit to their parents. A parent that commits does so
-// after its children, and one that aborts takes with it those that have not committed.
+// The class `sub` of nested transactions: they are spawned, and commit to their parents. A parent commits after its
+// children, and if it aborts, its uncommitted children abort.
 fn sub<A: Allocator + Copy>(rt: &impl Abort, alloc: A) -> Class<A> {
     let (kind, dependent) = (Dep::Cd, Dependent::Starter);
     let after = StartEdge { kind, dependent };

@@ -14,8 +14,8 @@ use refusing::{Case, Refusing};
 use std::alloc::{AllocError, Allocator, Global};
 use std::process::Abort;
 
-// Writes the canonical text of the model that a text means. This function and the next return `None` where memory runs
-// out: the texts, images and lines are good, and the contracts exclude a fault of a good one.
+// Writes the canonical text of a text's model. This function and the next ones return `None` if memory runs out: the texts,
+// images and lines are good, and the contracts exclude a fault of a good one.
 fn text_again<A: Allocator + Copy>(alloc: A, text: &[u8]) -> Option<Vec<u8, A>> {
     let model = assemble(alloc, text).ok()?;
     let text = print_model(alloc, &model);
@@ -60,7 +60,7 @@ fn text_fault<A: Allocator>(alloc: A, line: usize, code: u8, place: usize) -> Op
     Vec::from_slice(alloc, [line, code, place].as_slice()).ok()
 }
 
-// Writes what is wrong with a faulty text.
+// Writes the diagnostic of a faulty text.
 fn text_diagnosed<A: Allocator + Copy>(alloc: A, text: &[u8]) -> Option<Vec<u8, A>> {
     match acta_lang::diagnose(alloc, text) {
         Ok(Some(found)) => {
@@ -75,7 +75,7 @@ fn text_diagnosed<A: Allocator + Copy>(alloc: A, text: &[u8]) -> Option<Vec<u8, 
     }
 }
 
-// Writes the fault of a faulty image, and the offset of the field that has it, a byte each.
+// Writes the fault of a faulty image, and the offset of its field, a byte each.
 fn image_diagnosed<A: Allocator + Copy>(alloc: A, image: &[u8]) -> Option<Vec<u8, A>> {
     match acta_image::diagnose(alloc, image) {
         Ok(Some(found)) => {
@@ -193,7 +193,7 @@ impl<'a, R: Abort, A: Allocator + Copy> Case for Calling<'a, R, A> {
     }
 }
 
-// Refuses each allocation of a call, at least so many. The call reads the first bytes and writes the second.
+// Refuses each allocation of a call, at least this many. The call reads the first bytes and writes the second.
 fn refuse_call<R: Abort, A: Allocator + Copy, B: Allocator>(
     on: &Setting<'_, R, A>,
     heap: &Refusing<B>,

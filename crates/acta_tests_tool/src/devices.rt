@@ -1,5 +1,5 @@
-//! Readers and writers that fail, a reader without end, and the longest input. No contract says that `Metered` reads
-//! once for each read of its own and passes each error on, nor that `Watched` does so with writes.
+//! Readers and writers that fail, a reader without end, and the longest input. No contract promises that `Metered` reads
+//! once for each of its reads and forwards each error, nor the same of the writes of `Watched`.
 
 use crate::expecting::{counts, expect_text, holds, made};
 use acta_args::ModelName;
@@ -57,7 +57,7 @@ impl<'a> Read for Pieces<'a> {
     }
 }
 
-// Reads a line in pieces of 2 bytes, where this read fails. The run ends so, after so many reads.
+// Reads a line in pieces of 2 bytes, with this read failing. The run ends in this way, after this many reads.
 fn fail_at(
     rt: &(impl Threads + Sync + Abort),
     alloc: Global,
@@ -154,7 +154,7 @@ fn writers(rt: HostRuntime) {
     is_stuck(&rt, rt.alloc(), true, "a writer that fails at a flush");
 }
 
-// Runs a model's text on an input. The run ends so, and has written nothing.
+// Runs a model's text on an input. The run ends in this way, without writing anything.
 fn ends(
     rt: &(impl Threads + Sync + Abort),
     alloc: Global,

@@ -30,7 +30,7 @@ fn driven<R: Threads + Wait + Sync + Abort>(
     made(rt, String::from_str(alloc, output), input)
 }
 
-// Returns the lines of a seat, without the number of the entry that each begins with.
+// Returns the lines of a seat, without the entry numbers at their start.
 fn lines_of(rt: &impl Abort, alloc: Global, output: &str, seat: &str) -> String {
     let mut lines = String::new(alloc);
     for line in output.lines() {
@@ -44,7 +44,7 @@ fn lines_of(rt: &impl Abort, alloc: Global, output: &str, seat: &str) -> String 
     lines
 }
 
-// Asserts that the seat has two lines, of which the last starts and ends with these texts.
+// Asserts that the seat has two lines, the last of which starts and ends with these texts.
 fn has_two(rt: &impl Abort, alloc: Global, output: &str, seat: &str, (start, end): (&str, &str)) {
     let lines = lines_of(rt, alloc, output, seat);
     counts(rt, lines.lines().count() as u64, 2, lines.as_str());
@@ -86,7 +86,7 @@ const ONE: &str = "\
 1 commit 1
 ";
 
-// Returns the number of events that the line of a verdict has. The verdict has no faults and no debts.
+// Returns the number of events in the line of a verdict without faults and debts.
 fn length_of(rt: &impl Abort, line: Option<&str>) -> u64 {
     let line = line.expect(rt, "a verdict");
     let length = line.strip_prefix("front ").expect(rt, line);
@@ -94,7 +94,7 @@ fn length_of(rt: &impl Abort, line: Option<&str>) -> u64 {
     made(rt, length.parse::<u64>(), line)
 }
 
-// Two verdicts follow the entries, and the second is about no fewer events than the first.
+// Two verdicts follow the entries; the second is about at least as many events as the first.
 #[test]
 fn one_watched_worker(rt: HostRuntime) {
     let command = Command::Drive {

@@ -6,7 +6,7 @@ use std::alloc::Allocator;
 use std::fmt::Debug;
 use std::process::Abort;
 
-/// More allocations than any run makes.
+/// An upper bound on the allocations of any run.
 pub const MOST: u64 = 10_000;
 
 /// Returns the result of the call at this line. A call that fails ends the test.
@@ -45,7 +45,7 @@ pub fn refuse<B: Allocator, C: Case>(
     made(rt, refuse_each(heap, case, due), line)
 }
 
-/// Asserts that at least so many allocations were refused.
+/// Asserts that at least this many allocations were refused.
 pub fn at_least(rt: &impl Abort, refused: u64, least: u64, calls: &str) {
     assert!(rt;
         refused >= least,

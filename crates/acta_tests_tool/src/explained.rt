@@ -6,8 +6,8 @@ use crate::runs::ends;
 use acta_args::ModelName;
 use acta_compare::{Asked as AskedModels, Compared, compare_tool};
 use acta_draw::{Choice, Drawing, Form, Screen, View, draw_tool};
-use acta_explain::{NonBlankLine, RunTrace, explain_tool};
-use acta_io::{LineKind, Metered, Outcome, ReadFault, Watched};
+use acta_explain::{RunTrace, explain_tool};
+use acta_io::{LineKind, Metered, NonBlankLine, Outcome, ReadFault, Watched};
 use acta_lang::assemble;
 use acta_models::Standard;
 use acta_order::Orders;
@@ -90,8 +90,8 @@ fn serve<R: Threads + Sync, B: Allocator + Send + Sync>(
     draw_tool(heap, &drawing, screen, model, &mut input, &mut output)
 }
 
-// Runs a command, its nth allocation refused: the output is the due one, or nothing where memory ran out. Returns whether
-// that allocation came.
+// Runs a command with its nth allocation refused: the output is the expected one, or nothing if memory ran out. Returns
+// whether the command made that allocation.
 fn refuse_one<R: Threads + Sync + Abort, B: Allocator + Send + Sync>(
     rt: &R,
     (heap, other): (&Refusing<B>, Global),
@@ -113,7 +113,7 @@ fn refuse_one<R: Threads + Sync + Abort, B: Allocator + Send + Sync>(
     was_refused
 }
 
-// Refuses each allocation of a run, at least so many, and compares the output with that of a run with all its memory.
+// Refuses each allocation of a run, at least this many, and compares the output with that of a run with all its memory.
 fn refuse_run<R: Threads + Sync + Abort, B: Allocator + Send + Sync>(
     rt: &R,
     (heap, other): (&Refusing<B>, Global),
@@ -153,7 +153,7 @@ begin 1 loose
 begn 2 loose
 ";
 
-// The third line has a seat that is none.
+// The third line has an invalid seat.
 const SEATED: &str = "\
 1 begin 1 loose
 2 begin 2 loose
@@ -169,7 +169,7 @@ break object x
 break txn
 ";
 
-// Each of two transactions sees what the other did, so that each waits for the other to end.
+// Each of two transactions sees the other's work, so that each waits for the other to end.
 const PROGRAMS: &str = "\
 1 begin 1 loose
 1 begin 2 loose

@@ -2,7 +2,7 @@
 //! They refuse each allocation of a call or of a whole run, use readers and writers that fail, damage images, and run
 //! several workers.
 //!
-//! A helper that owns a model, an event or a case gives it to `drop` at its end: otherwise each of its parts is dropped
+//! A helper that owns a model, an event or a case passes it to `drop` at its end: otherwise each of its parts is dropped
 //! there, and each drop is proved there.
 #![tactic(auto)]
 

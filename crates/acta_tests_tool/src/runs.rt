@@ -1,5 +1,5 @@
-//! Runs of the tool, each allocation refused in turn. Where an allocation is refused, the run ends for want of memory
-//! or of a thread and has written nothing, or it does without that memory and writes its whole output.
+//! Runs of the tool, each allocation refused in turn. With an allocation refused, the run either ends for lack of memory or
+//! of a thread and has written nothing, or it does without that memory and writes its whole output.
 
 mod table;
 
@@ -48,7 +48,7 @@ fn model_of<'a>(args: &Args<'_>, row: &'a Row<'_>) -> &'a [u8] {
     }
 }
 
-// Whether the run ended for want of memory or of a thread.
+// Whether the run ended for lack of memory or of a thread.
 fn is_short(ended: Result<Outcome, DriveError>) -> bool {
     matches!(
         ended,
@@ -68,7 +68,7 @@ fn words(rt: &impl Abort, alloc: Global, line: &str) -> Vec<String> {
     words
 }
 
-// Runs a case, its nth allocation refused. Returns whether that allocation came.
+// Runs a case with its nth allocation refused. Returns whether the case made that allocation.
 fn refuse_one<R: Threads + Wait + Sync + Abort, B: Allocator + Send + Sync>(
     rt: &R,
     (heap, other): (&Refusing<B>, Global),
@@ -156,7 +156,7 @@ fn put(rt: &impl Abort, row: &mut Row<'_>, (mark, rest): (&str, &str), line: &st
     }
 }
 
-// Refuses each allocation of each case. At least so many are refused.
+// Refuses each allocation of each case, at least this many.
 fn refuse_rows<R: Threads + Wait + Sync + Abort, B: Allocator + Send + Sync>(
     rt: &R,
     other: Global,

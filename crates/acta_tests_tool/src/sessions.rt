@@ -1,5 +1,5 @@
-//! Sessions, each allocation refused in turn. Where one is refused, the session ends for want of memory after whole replies
-//! to its first lines, or it does without that memory and answers each line.
+//! Sessions, each allocation refused in turn. With one refused, the session either ends for lack of memory after whole
+//! replies to its first lines, or it does without that memory and answers each line.
 
 use crate::expecting::{MOST, at_least, expect_text, holds};
 use acta_args::ModelName;
@@ -13,7 +13,7 @@ use refusing::Refusing;
 use std::alloc::{Allocator, Global};
 use std::process::Abort;
 
-// Each command, with and without what may be left out, and faulty lines.
+// Each command, with and without its optional words, and faulty lines.
 const LINES: &str = "\
 begin 1 try
 form CMD 3 2
@@ -56,7 +56,7 @@ explore
 
 quit";
 
-// Holds a session.
+// Runs a session.
 fn serve<A: Handle>(alloc: A, output: &mut Vec<u8>) -> Outcome {
     let standard = Standard::Contingent;
     shell_tool(
@@ -69,7 +69,7 @@ fn serve<A: Handle>(alloc: A, output: &mut Vec<u8>) -> Outcome {
     )
 }
 
-// Holds the session whose replies these are, its nth allocation refused. Returns whether that allocation came.
+// Runs the session with these replies, its nth allocation refused. Returns whether it made that allocation.
 fn refuse_one<B: Allocator>(
     rt: &impl Abort,
     (heap, other): (&Refusing<B>, Global),

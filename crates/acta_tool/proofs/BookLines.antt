@@ -1,4 +1,4 @@
--- What is told of a book, from its entries, the fronts and its machine.
+-- The lines of a book, from its entries, the fronts and its machine.
 use Rattle.std.proofs.Common.{◌≡◌, ℕ, List, ◌++◌, map, sym, ap, ◌∙◌, append_assoc}
 use Rattle.std.proofs.lemmas.Grind.{flat_map-append}
 use Rattle.acta_table.specs.declared.model.Parts.{Parts}

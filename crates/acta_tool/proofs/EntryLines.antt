@@ -5,7 +5,7 @@ use Rattle.acta_words.specs.Text.{line_of, text_of}
 pub next : (new old piece rest : List ℕ) → new ≡ old ++ piece → new ++ rest ≡ old ++ (piece ++ rest)
 next new old piece rest h = ap (λ t. t ++ rest) h ∙ append_assoc old piece rest
 
--- the pieces, one behind the other, and the end of the line
+-- the pieces, one after the other, and the end of the line
 pub whole : (old number seat event answer one two three four five all : List ℕ) → one ≡ old ++ number → two ≡ one ++ 32 ∷ seat → three ≡ two ++ 32 ∷ event
     → four ≡ three ++ 32 ∷ codes ":" → five ≡ four ++ 32 ∷ answer → all ≡ five ++ text_of ([] ∷ [])
     → all ≡ old ++ text_of (line_of (number ∷ seat ∷ event ∷ codes ":" ∷ answer ∷ []) ∷ [])

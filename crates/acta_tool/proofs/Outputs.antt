@@ -1,4 +1,4 @@
--- What a run tells is the output of `run`.
+-- The report on a run is the output of `run`.
 use Rattle.std.proofs.Common.{◌≡◌, ℕ, Bool, List, ◌++◌, Option, is_some, sym, ap, ◌∙◌}
 use Rattle.std.proofs.lemmas.Grind.{flat_map-append}
 use Rattle.acta_table.specs.declared.answer.Answer.{Answer}
@@ -7,11 +7,11 @@ use Rattle.acta_table.specs.declared.model.Parts.{Parts}
 use Rattle.acta_machine.specs.Table.{State, run_answers, run_state}
 use Rattle.acta_words.specs.Text.{text_of}
 use Rattle.acta_io.specs.declared.input.BadLine.{BadLine}
-use Rattle.acta_io.specs.Input.{Said}
+use Rattle.acta_io.specs.Input.{Parsed}
 use Rattle.acta_tool.specs.Output.{reported, reported_last, run_on}
 
--- the events' answers, and what is told last
-pub whole : {A : Type 0} (is_kept : Bool) (m : Parts A) (s : Said (Event A)) (events : List (Event A)) (stop : Option BadLine) (answers : List Answer) (state : State A) (all : List ℕ)
+-- the answers to the events, and the last lines
+pub whole : {A : Type 0} (is_kept : Bool) (m : Parts A) (s : Parsed (Event A)) (events : List (Event A)) (stop : Option BadLine) (answers : List Answer) (state : State A) (all : List ℕ)
     → s ≡ record { parsed = events; stop = stop } → answers ≡ run_answers m events → state ≡ run_state m events
     → all ≡ text_of (reported is_kept answers state) ++ text_of (reported_last is_kept state stop)
     → (record { is_refused = is_some stop; text = all }) ≡ run_on is_kept m s

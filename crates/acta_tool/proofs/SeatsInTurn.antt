@@ -5,7 +5,7 @@ use Rattle.acta_table.specs.declared.event.Event.{Event}
 use Rattle.acta_script.specs.declared.seated.Seated.{Seated}
 use Rattle.acta_tool.specs.Driving.{script_of}
 
--- the next seat's script, and those behind it
+-- the next seat's script, and those after it
 pub turn : {A : Type 0} (parsed : List (Seated A)) (workers k : ℕ) (scripts all new : List (List (Event A))) → k < workers → new ≡ scripts ++ script_of parsed (k + 1) ∷ []
     → scripts ++ map (script_of parsed) (range_with_len (k + 1) (workers - k)) ≡ all → new ++ map (script_of parsed) (range_with_len (k + 1 + 1) (workers - (k + 1))) ≡ all
 turn parsed workers k scripts all new below is h =

@@ -31,7 +31,7 @@ none_of : {A : Type 0} (task : Task A) (fault : Option DriveError) → scripts_f
 none_of task None is free = refl
 none_of task (Some e) is free = absurd (free e is)
 
--- what has a result has no error, and an error is the one that it has
+-- a run with a result has no error, and an error is the run's own
 never : {T E : Type 0} (x : T) (e : E) → Ok x ≡ Err e → ⊥
 never x e h = cc
 
@@ -48,12 +48,12 @@ unstopped scripts NoThread may = refl
 unstopped scripts (GaveUp seat) may = absurd may.2.3
 unstopped scripts Unsettled may = refl
 
--- want of memory may always come
+-- lack of memory may always come
 pub short : {A : Type 0} (found : Result (Task A) (List ℕ)) (e : DriveError) → e ≡ Memory → MayCome found (Err e)
 short (Ok task) e is = ((λ of_scripts. absurd (true≢false (sym of_scripts ∙ ap is_of_scripts is))), ap is_stop is)
 short (Err line) e is = is
 
--- a run that has a result is told
+-- a run with a result is reported
 pub driven : {A : Type 0} (task : Task A) (d : Driven A) (fs : List (Front A)) (r : Result (Report A) DriveError) → ((e : DriveError) → scripts_fault task.scripts ≡ Some e → Ok (let w : Watched A = record { driven = d; fronts = fs } in w) ≡ Err e) → IsDriven task.model task.scripts d → AreAsked task d fs
     → IfOk r (λ report. output_of report ≡ record { is_refused = false; text = text_of (book_lines d.book fs) }) → IfErr r (λ e. e ≡ Memory) → MayComeOf (unless_too_long task) r
 driven {A} task d fs (Ok report) blocked is asked reported memory =
@@ -73,7 +73,7 @@ undriven_by task e (Some NoThread) is only passed blocked kept = (only, passed)
 undriven_by task e (Some (GaveUp seat)) is only passed blocked kept = (only, passed)
 undriven_by task e (Some Unsettled) is only passed blocked kept = (only, passed)
 
--- and one that has none says why, unless there are too many events
+-- a run without a result returns its error, unless there are too many events
 pub undriven : {A : Type 0} (task : Task A) (e : DriveError) → (is_of_scripts e ≡ true → scripts_fault task.scripts ≡ Some e) → is_stop e ≡ false → ((f : DriveError) → scripts_fault task.scripts ≡ Some f → ◌≡◌ {A = Result (Watched A) DriveError} (Err e) (Err f))
     → e ≢ TooManyEvents → MayCome (unless_too_long task) (Err e)
 undriven task e only passed blocked kept = undriven_by task e (scripts_fault task.scripts) refl only passed blocked kept

@@ -35,7 +35,7 @@ image_is_image : {A : Type 0} (version : ImageVersion) (m : Parts A) → is_imag
 unfolding image_in
 image_is_image version m = refl
 
--- the model that is loaded from an image is the one that it is of
+-- the model that is loaded from an image is the image's model
 pub loaded_is : {A : Type 0} (m n : Parts A) → AreOfModel m → loaded (image m) ≡ Ok n → n ≡ m
 loaded_is m n known is = let again : loaded (image m) ≡ Ok m = written-again m known in cc
 

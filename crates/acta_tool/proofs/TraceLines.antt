@@ -7,16 +7,16 @@ use Rattle.acta_table.specs.declared.model.Parts.{Parts}
 use Rattle.acta_machine.specs.Table.{State, fresh, after, run_state}
 use Rattle.acta_words.specs.Text.{line_of, text_of}
 use Rattle.acta_io.specs.declared.input.BadLine.{BadLine}
-use Rattle.acta_io.specs.Input.{Said}
+use Rattle.acta_io.specs.Input.{Parsed}
 use Rattle.acta_tool.specs.Output.{reported_last, trace_line, trace_lines, trace_on}
 use Rattle.acta_tool.proofs.EntryLines.{next}
 use Rattle.acta_io.proofs.ImageLines.{behind}
 
--- words, each behind a space
+-- words, each after a space
 abbrev pub spaced : List (List ℕ) → List ℕ
 spaced words = flat_map (λ word. 32 ∷ word) words
 
--- the pieces, one behind the other, and the end of the line
+-- the pieces, one after the other, and the end of the line
 pub whole : (old number answer event : List ℕ) (ops edges : List (List ℕ)) (one two three four five six all : List ℕ) → one ≡ old ++ number → two ≡ one ++ 32 ∷ answer → three ≡ two ++ 32 ∷ codes ":"
     → four ≡ three ++ 32 ∷ event → five ≡ four ++ spaced ops → six ≡ five ++ spaced edges → all ≡ six ++ text_of ([] ∷ [])
     → all ≡ old ++ text_of (line_of (number ∷ answer ∷ codes ":" ∷ event ∷ (ops ++ edges)) ∷ [])
@@ -43,7 +43,7 @@ whole old number answer event ops edges one two three four five six all h1 h2 h3
     ∙ next one old number r2 h1
     ∙ ap (λ t. old ++ t) (sym line ∙ sym (append-nil (line_of (number ∷ answer ∷ codes ":" ∷ event ∷ (ops ++ edges)) ++ end)))
 
--- the next event, and those behind it
+-- the next event, and those after it
 pub turn : {A : Type 0} (old text : List ℕ) (m m' : State A) (lines : List ℕ) (line k i : ℕ) (events : List (Event A)) (e : Event A) (all : List ℕ)
     → i < length events → e ≡ get_or events i e → line ≡ get_or lines k 0 → m' ≡ after m e → text ≡ old ++ text_of (trace_line m line e ∷ [])
     → old ++ text_of (trace_lines m (drop k lines) (drop i events)) ≡ all
@@ -62,8 +62,8 @@ turn {A} old text m m' lines line k i events e all within is at moved reported b
     ∙ ap (λ es. old ++ text_of (trace_lines m (drop k lines) es)) (sym split)
     ∙ before
 
--- the lines of the events, and what is told last
-pub traced : {A : Type 0} (m : Parts A) (lines numbers : List ℕ) (s : Said (Event A)) (events : List (Event A)) (stop : Option BadLine) (state : State A) (text all : List ℕ) → s ≡ record { parsed = events; stop = stop } → numbers ≡ lines
+-- the lines of the events, and the last lines
+pub traced : {A : Type 0} (m : Parts A) (lines numbers : List ℕ) (s : Parsed (Event A)) (events : List (Event A)) (stop : Option BadLine) (state : State A) (text all : List ℕ) → s ≡ record { parsed = events; stop = stop } → numbers ≡ lines
     → text ≡ text_of (trace_lines (fresh m) numbers events) → state ≡ run_state m events → all ≡ text ++ text_of (reported_last false state stop)
     → (record { is_refused = is_some stop; text = all }) ≡ trace_on m lines s
 unfolding trace_on

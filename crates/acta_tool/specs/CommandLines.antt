@@ -1,4 +1,4 @@
--- What the words of a command line ask for, in the words of `clap`.
+-- The meaning of a command line, in terms of `clap`.
 use Rattle.std.specs.Prelude.{◌≡◌, ◌≢◌, ◌==◌, ◌<◌, ◌≤◌, ⊤, Bool, true, false, ◌⊎◌, ℕ, List, [], ◌∷◌, Option, Some, None, option_map, IsSomeAnd, slice_index, codes, pos}
 use Rattle.std.specs.Option.{option_and_then, option_map_or}
 use Rattle.std.specs.Str.{bytes_eq}
@@ -15,7 +15,7 @@ use Rattle.acta_args.specs.Models.{IsModel, IsUnknown}
 use Rattle.acta_args.specs.declared.fault.UsageFault.{UsageFault}
 use Rattle.acta_args.specs.declared.fault.UsageFault.TheVariants.{Usage, UnknownModel, NotText, Memory}
 
--- the one argument of a command, MODEL, which has to be there
+-- the one argument of a command, MODEL, which is required
 abbrev pub model_rule : Rule
 model_rule = record (new_rule (codes "MODEL")) { required = true; action = Some Set }
 
@@ -23,7 +23,7 @@ model_rule = record (new_rule (codes "MODEL")) { required = true; action = Some 
 abbrev pub kept_rule : Rule
 kept_rule = record (new_rule (codes "kept")) { long = Some (codes "kept"); action = Some SetTrue }
 
--- the option `--workers`, which has to be there, with a number from 1 to 16
+-- the option `--workers`, which is required, with a number from 1 to 16
 abbrev pub workers_rule : Rule
 workers_rule = record (new_rule (codes "workers")) {
   long = Some (codes "workers");
@@ -68,13 +68,13 @@ serial_app = with_rule (new_app (codes "serial")) model_rule
 abbrev pub drive_app : App
 drive_app = with_rule (with_rule (with_rule (new_app (codes "drive")) model_rule) workers_rule) watch_rule
 
--- the program without its commands, of which one has to be there
+-- the program without its commands, one of which is required
 abbrev pub bare_app : App
 bare_app =
     let app = new_app (codes "acta_tool") in
     record app { top = record app.top { subcommand_required = true } }
 
--- the program with the commands that have the model alone
+-- the program with the commands that have only the model
 abbrev pub plain_app : App
 plain_app =
     with_subcommand (with_subcommand (with_subcommand (with_subcommand (with_subcommand (with_subcommand (with_subcommand
@@ -84,8 +84,8 @@ plain_app =
 abbrev pub tool_app : App
 tool_app = with_subcommand (with_subcommand plain_app run_app.top) drive_app.top
 
--- a command line as it is spelled: the command, whether the flag stands with it, the numbers of workers and of turns
--- if they do, and the model
+-- the words of a command line: the command, whether the flag is set, the numbers of workers and turns if given, and the
+-- model
 pub record Named : Type 0 where
   pub command : Text
   pub is_kept : Bool
@@ -97,7 +97,7 @@ pub record Named : Type 0 where
 abbrev pub is_set : Text → List Row → Bool
 is_set flag rows = option_map_or (bytes_eq (codes "true")) (first_of flag rows) false
 
--- what was read of the words, by the command that stands in them
+-- the words that `clap` matched for the command
 abbrev pub named_in : Option (Text × List Row) → Option Named
 named_in = option_and_then (λ p.
     option_map (λ model. record {
@@ -108,19 +108,19 @@ named_in = option_and_then (λ p.
       model = model;
     }) (first_of (codes "MODEL") p.1))
 
--- what the words name
+-- the command line, if `clap` takes the words
 unfoldable pub named_by : List Text → Option Named
 named_by words = named_in (subcommand_of tool_app words)
 
--- the kinds of error for which `clap` refuses the words: none where they are written as they should be
+-- the kinds of error for which `clap` refuses the words; none if it takes them
 unfoldable pub faults_of : List Text → Kinds
 faults_of words = fault_of tool_app words
 
--- the number of workers, if digits stand there
+-- the number of workers, if it is given in digits
 abbrev pub workers_in : Named → Option ℕ
 workers_in line = option_and_then (read_natural 0xffff) line.workers
 
--- how often the history is judged meanwhile: not at all where nothing is said
+-- how often the history is judged meanwhile: 0 by default
 abbrev pub turns_by : Option Text → Option ℕ
 turns_by None = Some 0
 turns_by (Some text) = read_natural 0xffff text
@@ -128,11 +128,11 @@ turns_by (Some text) = read_natural 0xffff text
 abbrev pub turns_in : Named → Option ℕ
 turns_in line = turns_by line.watch
 
--- as often as a byte counts
+-- at most 255 turns
 abbrev pub AreTurns : ℕ → Type 0
 AreTurns turns = turns ≤ 255
 
--- a seat for each: from 1 to 16
+-- 1 to 16 workers, one for each seat
 abbrev pub AreSeated : ℕ → Type 0
 AreSeated workers = (0 < workers) × (workers ≤ MOST_WORKERS)
 
@@ -150,7 +150,7 @@ IsCommand line (Drive workers turns) =
     (line.command ≡ codes "drive") × (workers_in line ≡ Some workers) × AreSeated workers
     × (turns_in line ≡ Some turns) × AreTurns turns
 
--- it is one of them
+-- the command is one of these
 abbrev pub IsKnown : Named → Type 0
 IsKnown line =
     (line.command ≡ codes "assemble")
@@ -163,14 +163,13 @@ IsKnown line =
     ⊎ ((line.command ≡ codes "serial")
     ⊎ ((line.command ≡ codes "drive") × IsSomeAnd (workers_in line) AreSeated × IsSomeAnd (turns_in line) AreTurns))))))))
 
--- the words are written as they should be, and name this command and this model
+-- `clap` takes the words, and they name this command and this model
 abbrev pub AsksFor : List Text → Args → Type 0
 AsksFor words args =
     (faults_of words ≡ []) × IsSomeAnd (named_by words) (λ line. IsCommand line args.command × IsModel line.model args.model)
 
--- why the words are refused: `clap` refuses them for what the error says; or `clap` takes them, but they name no
--- command with its model, and the error says that it is missing; or no model has the name after the `@`; or there is
--- no memory
+-- why the words are refused: `clap` refuses them with this error; or `clap` takes them, but they name no command with its
+-- model, and the error says that it is missing; or no standard model has the name after the `@`; or memory ran out
 abbrev pub IsFaultOf : List Text → UsageFault → Type 0
 IsFaultOf words (Usage e) =
     IsAmong (kind_of e) (faults_of words)

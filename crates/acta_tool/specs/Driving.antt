@@ -1,4 +1,4 @@
--- What `drive` may write: whatever some driven run of the scripts that the lines give leaves.
+-- The possible outputs of `drive`: those of all driven runs of the scripts that the lines give.
 use Rattle.std.specs.Prelude.{◌≡◌, ⊤, ℕ, Bool, true, false, ◌==◌, List, [], ◌∷◌, ◌++◌, length, map, filter, codes, decimal, if◌then◌else◌, Option, Some, None, Result, Ok, Err}
 use Rattle.std.specs.List.{range_with_len}
 use Rattle.acta_table.specs.declared.event.Event.{Event}
@@ -26,7 +26,7 @@ use Rattle.acta_io.specs.declared.input.BadLine.{BadLine}
 use Rattle.acta_io.specs.Models.{of_either}
 use Rattle.acta_io.specs.Outcome.{Answers}
 use Rattle.acta_io.specs.Reports.{Output, no_model_line, stop_line}
-use Rattle.acta_io.specs.Input.{Said, parsed_in}
+use Rattle.acta_io.specs.Input.{Parsed, parsed_in}
 
 -- the script of a seat: the events of its lines, in order
 abbrev pub script_of : {A : Type 0} → List (Seated A) → ℕ → List (Event A)
@@ -46,17 +46,17 @@ abbrev pub front_line : {A : Type 0} → Front A → List ℕ
 front_line f =
     line_of (codes "front" ∷ decimal f.length ∷ decimal (length f.verdict.faults) ∷ decimal (length f.verdict.owed) ∷ [])
 
--- what is told of a book and of the fronts that were judged while it grew: its entries, the fronts, then what is owed
+-- the lines of a book and of the fronts that were judged while it grew: its entries, the fronts, then the debts
 abbrev pub book_lines : {A : Type 0} → Entries A → List (Front A) → List (List ℕ)
 book_lines b fs = map (entry_line b.model) b.entries ++ (map front_line fs ++ map owed_line (debts_in (state_of b)))
 
--- what is to be driven: scripts, on a model, and how often the history is judged meanwhile
+-- the task of a driven run: a model, scripts, and how often the history is judged meanwhile
 pub record Task (A : Type 0) : Type 0 where
   pub model : Parts A
   pub scripts : List (List (Event A))
   pub turns : ℕ
 
--- these are as many fronts as the task asks for, of the history that the run kept
+-- as many fronts as the task asks for, of the history of the run's book
 pub record AreAsked {A : Type 0} (task : Task A) (d : Driven A) (fs : List (Front A)) : Type 0 where
   pub fronts : AreFronts task.model (state_of d.book).kept fs
   pub asked : length fs ≡ task.turns
@@ -66,31 +66,31 @@ abbrev pub is_too_long : Option DriveError → Bool
 is_too_long (Some TooManyEvents) = true
 is_too_long _ = false
 
--- whether it is that a gate stopped a worker
+-- whether the error is that a gate stopped a worker
 abbrev pub is_stop : DriveError → Bool
 is_stop (GaveUp seat) = true
 is_stop _ = false
 
--- the task, or the line that refuses it
+-- the task, or the line that refuses it if it has too many events
 abbrev pub unless_too_long : {A : Type 0} → Task A → Result (Task A) (List ℕ)
 unless_too_long task = if is_too_long (scripts_fault task.scripts) then Err (codes "drive fault 3") else Ok task
 
--- the task of the lines on a model, or the line for the first that is faulty
+-- the task of the lines on a model, or the line for the first faulty one
 abbrev pub task_by : {A : Type 0} → ℕ → ℕ → Parts A → List (Seated A) → Option BadLine → Result (Task A) (List ℕ)
 task_by workers turns m parsed None = unless_too_long (record { model = m; scripts = scripts_of workers parsed; turns = turns })
 task_by workers turns m parsed (Some b) = Err (stop_line b)
 
-abbrev pub task_on : {A : Type 0} → ℕ → ℕ → Parts A → Said (Seated A) → Result (Task A) (List ℕ)
+abbrev pub task_on : {A : Type 0} → ℕ → ℕ → Parts A → Parsed (Seated A) → Result (Task A) (List ℕ)
 task_on workers turns m s = task_by workers turns m s.parsed s.stop
 
--- the task that the bytes of a model and of an input give so many workers and turns, or the line that says what is wrong
+-- the task of the bytes of a model and of an input, for this many workers and turns, or the line that refuses it
 abbrev pub task_of : {A : Type 0} → ℕ → ℕ → Result (Parts A) NoModel → List ℕ → Result (Task A) (List ℕ)
 task_of workers turns (Err fault) input = Err (no_model_line fault)
 task_of workers turns (Ok m) input = task_on workers turns m (parsed_in (seated_of m workers) input)
 
--- what may be written: what some driven run of the task leaves, with any fronts that it asks for, or the line that
--- refuses it; and why nothing may be: of a task no fault of the scripts unless they have it, and never a gate, and in
--- place of a line that refuses it only want of memory
+-- the possible results for a task or the line that refuses it. A task's output is that of some driven run, with any fronts
+-- of its history; its error is a fault of the scripts only if they have it, and never that a gate gave up. A refusing line
+-- is the output, unless memory ran out
 abbrev pub MayCome : {A : Type 0} → Result (Task A) (List ℕ) → Result Output DriveError → Type 0
 MayCome {A} (Ok task) (Ok out) =
     (scripts_fault task.scripts ≡ None) × (d : Driven A) × IsDriven task.model task.scripts d
@@ -100,13 +100,13 @@ MayCome (Ok task) (Err e) = (is_of_scripts e ≡ true → scripts_fault task.scr
 MayCome (Err line) (Ok out) = out ≡ record { is_refused = true; text = text_of (line ∷ []) }
 MayCome (Err line) (Err e) = e ≡ Memory
 
--- what may come of the command `drive`, for the bytes of a model and of an input; A is the allocator's type
+-- the possible results of `drive` for the bytes of a model and of an input; A is the allocator's type
 abbrev pub MayWrite : (A : Type 0) → Command → List ℕ → List ℕ → Result Output DriveError → Type 0
 MayWrite A (Drive workers turns) model input left = MayCome {A = A} (task_of workers turns (of_either model) input) left
 MayWrite A _ model input left = ⊥
 
--- where the input was answered, the writer got an output that may be written, and nothing else; and where no run was
--- driven, it is for a reason that may come
+-- if the input was answered, exactly one of the possible outputs was written; if no run was driven, the error is a possible
+-- one
 abbrev pub AnswersOne : Result Outcome DriveError → (Result Output DriveError → Type 0) → Option (List ℕ) → Option (List ℕ) → Type 0
 AnswersOne (Ok Done) May old new = (out : Output) × May (Ok out) × Answers Done out old new
 AnswersOne (Ok Refused) May old new = (out : Output) × May (Ok out) × Answers Refused out old new

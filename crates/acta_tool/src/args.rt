@@ -1,4 +1,4 @@
-//! What the words of a command line ask for.
+//! The parsed command line.
 
 ghost use Rattle.std.specs.Prelude.{◌≡◌, ◌≢◌, Some, IsSomeAnd, [], map, option_map, string_bytes, codes, false, IfOk, IfErr, IfSome, IfNone};
 ghost use Rattle.std.specs.Option.{option_map_or};
@@ -15,43 +15,41 @@ use clap::error::ErrorKind;
 use clap::{Arg, ArgAction, ArgMatches};
 use std::alloc::{AllocError, Global};
 
-/// What is to be done.
+/// The command to run.
 #[derive(Clone, Copy, Debug, PartialEq, Eq)]
 pub enum Command {
-    /// Writes the image of the model that a text means.
+    /// Writes the image of a model's text.
     Assemble,
-    /// Writes the canonical text of the model whose image the bytes are.
+    /// Writes the canonical text of a model's image.
     CheckImage,
-    /// Writes the image, in the version of the format that is written, of the model whose image in any version the
-    /// bytes are.
+    /// Converts an image of any version to the version that is written.
     Upgrade,
-    /// Answers the event lines of the standard input; or, if `kept`, lists the kept events, with what
-    /// they returned, and nothing else.
+    /// Answers the event lines of the standard input; with `kept`, lists only the kept events with their returns.
     Run { kept: bool },
-    /// Answers the event lines of the standard input, and says with each answer in which line the event stands, and
-    /// which operation and edges it formed.
+    /// Answers the event lines of the standard input, and adds to each answer the event's line and the operation and edges
+    /// that the event formed.
     Trace,
-    /// Judges the kept lines of the standard input: lists each fault, and what is owed.
+    /// Judges the kept lines of the standard input: lists each fault, and the debts.
     Judge,
-    /// Takes the events that are admitted of the lines before `--` as the history of a debugger, and writes the replies
-    /// to the commands after it.
+    /// Runs a debug script: the admitted events before the line `--` are the history of a debugger, and the output has the
+    /// replies to the commands after it.
     Debug,
-    /// Adds the committed operations of a run of the event lines of the standard input, in serial order, where the
-    /// model is strict.
+    /// Writes the committed operations of a run of the event lines of the standard input in serial order, if the model is
+    /// strict.
     Serial,
-    /// Hands the event lines of the standard input in by this many threads, and lists the entries of the book; the kept
-    /// history is judged so many times meanwhile, and each front is listed after the entries.
+    /// Runs the event lines of the standard input in this many threads, and lists the entries of the book. Meanwhile the
+    /// kept history is judged `turns` times, and each front is listed after the entries.
     Drive { workers: u8, turns: u8 },
 }
 
-/// A command line that was taken.
+/// A parsed command line.
 #[derive(Clone, Copy, Debug, PartialEq, Eq)]
 pub struct Args<'a> {
     pub command: Command,
     pub model: ModelName<'a>,
 }
 
-// A command line as it is spelled.
+// The words of a command line, before they are checked.
 #[derive(Clone, Copy)]
 struct Spelled<'a> {
     command: &'a str,
@@ -61,7 +59,7 @@ struct Spelled<'a> {
     model: &'a str,
 }
 
-// The number of workers that is spelled so, if it is one from 1 to 16.
+// The number of workers, if it is from 1 to 16.
 fn workers_named(spelled: &Spelled<'_>) -> Option<u8>
     ensures some { IfSome result (λ workers. (workers_in (named_of spelled.now) ≡ Some workers) × AreSeated workers) }
     ensures none { IfNone result (¬ (IsSomeAnd (workers_in (named_of spelled.now)) AreSeated)) }
@@ -74,7 +72,7 @@ fn workers_named(spelled: &Spelled<'_>) -> Option<u8>
     }
 }
 
-// How often the history is judged meanwhile, if that is a number up to 255; not at all where nothing is said.
+// How often the history is judged, if that is a number up to 255; 0 by default.
 fn turns_named(spelled: &Spelled<'_>) -> Option<u8>
     ensures some { IfSome result (λ turns. (turns_in (named_of spelled.now) ≡ Some turns) × AreTurns turns) }
     ensures none { IfNone result (¬ (IsSomeAnd (turns_in (named_of spelled.now)) AreTurns)) }
@@ -86,7 +84,7 @@ fn turns_named(spelled: &Spelled<'_>) -> Option<u8>
     if turns > 255 { None } else { Some(turns as u8) }
 }
 
-// The command that is spelled so.
+// The command with its checked options.
 fn command_named(spelled: &Spelled<'_>) -> Option<Command>
     ensures some { IfSome result (IsCommand (named_of spelled.now)) }
     ensures none { IfNone result (¬ (IsKnown (named_of spelled.now))) }
@@ -123,7 +121,7 @@ fn bare_command<'a>(alloc: Global) -> clap::Command<'a>
         .subcommand_required(true)
 }
 
-// Where the model is: the one argument of a command.
+// The one argument of a command: where the model is.
 fn model_argument<'a>(alloc: Global) -> Arg<'a>
     ensures rule { rule_of result ≡ model_rule }
     ensures local { result.global ≡ false }
@@ -136,7 +134,7 @@ fn model_argument<'a>(alloc: Global) -> Arg<'a>
         )
 }
 
-// Whether only the kept events are written.
+// The flag to write only the kept events.
 fn kept_flag<'a>(alloc: Global) -> Arg<'a>
     ensures rule { rule_of result ≡ kept_rule }
     ensures local { result.global ≡ false }
@@ -147,7 +145,7 @@ fn kept_flag<'a>(alloc: Global) -> Arg<'a>
         .help("Prints only the admitted events, each with its return")
 }
 
-// The program with one command more, which has the model alone.
+// The program with one more command, which has only the model.
 fn with_command<'a>(
     alloc: Global,
     program: clap::Command<'a>,
@@ -162,7 +160,7 @@ fn with_command<'a>(
     program.subcommand(added)
 }
 
-// The program with one command more, which has the model and this argument.
+// The program with one more command, which has the model and this argument.
 fn with_argument<'a>(
     alloc: Global,
     program: clap::Command<'a>,
@@ -180,7 +178,7 @@ fn with_argument<'a>(
     program.subcommand(added)
 }
 
-// How many threads hand the events in.
+// The option for the number of threads.
 fn workers_option<'a>(alloc: Global) -> Arg<'a>
     ensures rule { rule_of result ≡ workers_rule }
     ensures local { result.global ≡ false }
@@ -193,7 +191,7 @@ fn workers_option<'a>(alloc: Global) -> Arg<'a>
         .help("Sets the number of threads, from 1 to 16")
 }
 
-// How often the history is judged while it grows.
+// The option for how often the history is judged while it grows.
 fn watch_option<'a>(alloc: Global) -> Arg<'a>
     ensures rule { rule_of result ≡ watch_rule }
     ensures local { result.global ≡ false }
@@ -205,7 +203,7 @@ fn watch_option<'a>(alloc: Global) -> Arg<'a>
         .help("Sets how often the history is judged while it grows, from 0 to 255")
 }
 
-// The command that drives, with what it has beside the model.
+// The command `drive`, with its options.
 fn drive_command<'a>(
     alloc: Global,
     program: clap::Command<'a>,
@@ -220,7 +218,7 @@ fn drive_command<'a>(
     program.subcommand(added)
 }
 
-// The program with the commands that have the model alone.
+// The program with the commands that have only the model.
 fn plain_commands<'a>(alloc: Global) -> Result<clap::Command<'a>, AllocError>
     ensures { IfOk result (λ command. app_of command ≡ plain_app) }
 {
@@ -268,7 +266,7 @@ fn plain_commands<'a>(alloc: Global) -> Result<clap::Command<'a>, AllocError>
     )
 }
 
-// The command line that the program takes.
+// The program's command line.
 fn surface<'a>(alloc: Global) -> Result<clap::Command<'a>, AllocError>
     ensures { IfOk result (λ command. app_of command ≡ tool_app) }
 {
@@ -293,7 +291,7 @@ fn is_set(matches: &ArgMatches<'_>, flag: &str) -> bool
     }
 }
 
-// The command that was named, with its flag and its model, as they are spelled.
+// The words of the command, its options and its model.
 fn spelling<'a>(matches: &ArgMatches<'a>) -> Option<Spelled<'a>>
     ensures { option_map named_of result ≡ named_in (subcommand_rows_of matches.now) }
 {
@@ -315,7 +313,7 @@ fn spelling<'a>(matches: &ArgMatches<'a>) -> Option<Spelled<'a>>
     })
 }
 
-// What the words name, where they are written as they should be.
+// The words of a command line, if `clap` takes them.
 fn spelled_by<'a>(
     surface: &mut clap::Command<'a>,
     words: &'a [String],
@@ -343,7 +341,7 @@ fn no_command(surface: &mut clap::Command<'_>) -> UsageFault
     }
 }
 
-// What the words ask the program for that takes this command line.
+// Parses the words by this command line.
 fn asked_by<'a>(
     surface: &mut clap::Command<'a>,
     words: &'a [String],
@@ -364,8 +362,8 @@ fn asked_by<'a>(
     }
 }
 
-/// What the words ask for; the first is the program's name. `Usage` where they are no command with its model, with the
-/// text of `clap`; `UnknownModel` where no standard model has the name after the `@`; `Memory` where there is none.
+/// Parses a command line; the first word is the program's name. Returns `Usage` with the text of `clap` if the words are not
+/// a command with its model; `UnknownModel` if no standard model has the name after the `@`; `Memory` if memory runs out.
 pub fn parse<'a>(alloc: Global, words: &'a [String]) -> Result<Args<'a>, UsageFault>
     ensures ok { IfOk result (AsksFor (map string_bytes words.now)) }
     ensures err { IfErr result (IsFaultOf (map string_bytes words.now)) }

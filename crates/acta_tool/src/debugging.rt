@@ -1,5 +1,5 @@
-//! The command `debug`: events before the first line `--`, and after it commands to a debugger on what is kept of
-//! them.
+//! The command `debug`: events before the first line `--`, and after it commands to a debugger on the history of those
+//! events.
 
 ghost use Rattle.std.specs.Prelude.{◌≡◌, ◌++◌, ◌∷◌, [], IfOk, OnOk};
 ghost use Rattle.std.specs.Option.{option_map_or};
@@ -10,7 +10,7 @@ ghost use Rattle.acta_io.specs.inside.Sections.{parsed_of};
 ghost use Rattle.acta_tool.specs.Output.{debug_on, debugged_on};
 
 use crate::session::render_commands;
-use acta_debug::Debugger;
+use acta_debug::{Cursor, Debugger};
 use acta_io::{BadLine, Input, Report, push_stop, read_script, refuse_line};
 use acta_machine::Handle;
 use acta_script::DebugCommand;
@@ -36,10 +36,11 @@ fn report_commands<A: Handle>(
 ) -> Result<Report<A>, AllocError>
     ensures { IfOk result (λ report. output_of report ≡ debugged_on model events.now (parsed_of commands.now)) }
 {
-    let mut debugger = Debugger::of_events(alloc, model, events)?;
+    let debugger = Debugger::of_events(alloc, model, events)?;
+    let mut cursor = Cursor::new(debugger);
     let mut text = Vec::new(alloc);
-    let reported = render_commands(alloc, &mut debugger, commands.parsed.as_slice(), &mut text);
-    drop(debugger);
+    let reported = render_commands(alloc, &mut cursor, commands.parsed.as_slice(), &mut text);
+    drop(cursor);
     reported?;
     render_last(&mut text, commands.stop)?;
     Ok(Report {
@@ -48,7 +49,7 @@ fn report_commands<A: Handle>(
     })
 }
 
-/// The output of a debugging run: the replies to the commands, or only the faulty line if one of the event lines is faulty.
+/// The output of a debugging run: the replies to the commands, or only the faulty line if an event line is faulty.
 pub fn debug_model<A: Handle>(
     alloc: A,
     model: Model<A>,

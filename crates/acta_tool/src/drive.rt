@@ -61,7 +61,7 @@ fn scripts_of<A: Allocator + Copy>(
     Ok(scripts)
 }
 
-// The output for the book that a driven run leaves, and of the fronts that were judged meanwhile.
+// The output for the book of a driven run, and for the fronts that were judged meanwhile.
 fn report_book<A: Handle>(
     alloc: A,
     book: &Book<A>,
@@ -105,7 +105,7 @@ fn drive_scripts<A: Handle + Send + Sync, R: Threads + Wait + Sync>(
     }
 }
 
-// The output for a driven run of what the lines say.
+// The output for a driven run of the parsed lines.
 fn drive_parsed<A: Handle + Send + Sync, R: Threads + Wait + Sync>(
     rt: &R,
     alloc: A,
@@ -163,11 +163,11 @@ fn answer<A: Handle + Send + Sync, R: Threads + Wait + Sync>(
     }
 }
 
-/// Reads the whole input as lines `SEAT EVENT`, hands in each seat's events, in order, by a thread of its own, and
-/// writes in one go the entries of the book, a line for each front that a judging thread made meanwhile, and then what
-/// is owed. If the model or a line is faulty, or there are more than 65,536 lines, that alone is written. `Unread` and
-/// `Unwritten` come as from `run_tool`. `Err` if the threads have no result, and then nothing is written. Not promised:
-/// which order of the threads' events the book has, and that the call returns.
+/// Reads the whole input as lines `SEAT EVENT`, and submits each seat's events, in order, from a thread of its own. Then
+/// writes at once the entries of the book, a line for each front that a judging thread made, and the debts. If the model or
+/// a line is faulty, or there are more than 65,536 lines, only that is written. `Unread` and `Unwritten` are returned as by
+/// `run_tool`. Returns `Err` if the threads have no result; then nothing is written. Not promised: the order in which the
+/// book has the threads' events, and termination.
 pub fn drive_tool<A: Handle + Send + Sync, R: Threads + Wait + Sync, S: Source, W: Sink>(
     rt: &R,
     alloc: A,

@@ -1,9 +1,8 @@
-//! The commands whose formats are specified: what the words of their command lines ask for, and what each writes for
-//! the bytes of a model and of an input, over any reader and writer. A program that only opens files and streams stands
-//! above it.
+//! The commands whose formats are specified: the parsing of their command lines, and their output for the bytes of a model
+//! and of an input, over any reader and writer. The program that opens files and streams uses this crate.
 //!
-//! A function that lets go of a run, a debugger or a surface of `clap` gives it to `drop` before its other ways out: who
-//! lets it go by itself lets go of each of its parts, at each way out, and each is proved there.
+//! A function that drops a run, a debugger or a `clap` command calls `drop` before its other returns. An implicit drop drops
+//! each part at each return, and each is proved there.
 //!
 //! A call that allocates returns `Err` if memory runs out.
 #![tactic(auto)]

@@ -1,4 +1,4 @@
-//! The model that a command finds in bytes.
+//! The model in the bytes that a command is given.
 
 ghost use Rattle.std.specs.Prelude.{◌≡◌, Ok, IfOk, IfErr};
 ghost use Rattle.acta_io.specs.inside.Reports.{IsWhy};
@@ -9,8 +9,7 @@ use acta_io::{ModelError, read_image, read_model, read_text};
 use acta_table::Model;
 use std::alloc::Allocator;
 
-/// The model that the command finds in the bytes: `assemble` takes a text alone, `check-image` and `upgrade` an image
-/// alone, and all others take both.
+/// The model in the bytes: `assemble` takes only a text, `check-image` and `upgrade` only an image, all others take both.
 pub fn read_model_for<A: Allocator + Copy>(
     alloc: A,
     command: Command,

@@ -14,28 +14,25 @@ use acta_io::{BadLine, push_stop};
 use acta_judge::Verdict;
 use acta_locked::{Book, Entry, Front};
 use acta_machine::{Handle, Machine, Run};
-use acta_script::{answer_line, fault_line, owed_line, write_event};
+use acta_script::{answer_line, fault_line, owed_line, push_answer, write_event};
 use acta_table::{Answer, Model, Owed};
 use acta_trace::{push_debt_lines, push_kept_lines, push_owed_lines};
 use acta_words::{push_line, push_natural, push_word};
 use itoa::Buffer;
 use std::alloc::{AllocError, Allocator};
 
-// Adds the answers, a line each.
-fn render_answers<A: Allocator + Copy>(
-    alloc: A,
-    answers: &[Answer],
-    text: &mut Vec<u8, A>,
-) -> Result<(), AllocError>
+// Adds the answers, one per line.
+fn render_answers<A: Allocator>(answers: &[Answer], text: &mut Vec<u8, A>) -> Result<(), AllocError>
     ensures { OnOk result (text.new.items ≡ text.old.items ++ text_of (map answer_line answers.now)) }
 {
     for answer in answers {
-        push_line(text, answer_line(alloc, answer)?.as_slice())?;
+        push_answer(text, answer)?;
+        push_line(text, b"")?;
     }
     Ok(())
 }
 
-// Adds these faults, a line each.
+// Adds these faults, one per line.
 fn render_faults<A: Allocator + Copy>(
     alloc: A,
     faults: &[Fault],
@@ -50,7 +47,7 @@ fn render_faults<A: Allocator + Copy>(
     Ok(())
 }
 
-/// Adds a verdict: its faults, then what is owed.
+/// Adds a verdict: its faults, then the debts.
 pub fn render_verdict<A: Allocator + Copy>(
     alloc: A,
     verdict: &Verdict<A>,
@@ -82,7 +79,7 @@ fn render_entry<A: Allocator + Copy>(
     Ok(())
 }
 
-// Adds the entries, a line each.
+// Adds the entries, one per line.
 fn render_entries<A: Allocator + Copy>(
     alloc: A,
     model: &Model<A>,
@@ -97,7 +94,7 @@ fn render_entries<A: Allocator + Copy>(
     Ok(())
 }
 
-// Adds a front: how many items it has, and how many faults and debts the verdict on them.
+// Adds a front: the number of its items, and the numbers of faults and debts in the verdict on them.
 fn render_front<A: Allocator>(front: &Front<A>, text: &mut Vec<u8, A>) -> Result<(), AllocError>
     ensures { OnOk result (text.new.items ≡ text.old.items ++ text_of (front_line front.now ∷ [])) }
 {
@@ -108,7 +105,7 @@ fn render_front<A: Allocator>(front: &Front<A>, text: &mut Vec<u8, A>) -> Result
     push_line(text, b"")
 }
 
-// Adds the fronts, a line each.
+// Adds the fronts, one per line.
 fn render_fronts<A: Allocator>(fronts: &[Front<A>], text: &mut Vec<u8, A>) -> Result<(), AllocError>
     ensures { OnOk result (text.new.items ≡ text.old.items ++ text_of (map front_line fronts.now)) }
 {
@@ -118,7 +115,7 @@ fn render_fronts<A: Allocator>(fronts: &[Front<A>], text: &mut Vec<u8, A>) -> Re
     Ok(())
 }
 
-/// Adds the entries of a book, then the fronts that were judged while it grew, and then what is owed.
+/// Adds the entries of a book, then the fronts that were judged while it grew, then the debts.
 pub fn render_book<A: Handle>(
     alloc: A,
     book: &Book<A>,
@@ -134,7 +131,7 @@ pub fn render_book<A: Handle>(
     Ok(())
 }
 
-/// Adds the answers to the events of a run; or, where `is_kept`, the events that were kept, with what they returned.
+/// Adds the answers to the events of a run; or, if `is_kept`, the kept events with their returns.
 pub fn render_events<A: Handle>(
     alloc: A,
     is_kept: bool,
@@ -146,11 +143,11 @@ pub fn render_events<A: Handle>(
     if is_kept {
         push_kept_lines(alloc, &run.machine, text)
     } else {
-        render_answers(alloc, run.answers.as_slice(), text)
+        render_answers(run.answers.as_slice(), text)
     }
 }
 
-/// Adds the line that stopped a run, or else the debts; nothing after a list of kept events.
+/// Adds the line that stopped a run, otherwise the debts; nothing after a list of kept events.
 pub fn render_end<A: Handle>(
     alloc: A,
     is_kept: bool,

@@ -28,7 +28,7 @@ use acta_table::Model;
 use std::alloc::{AllocError, Allocator};
 use std::thread::Threads;
 
-// The output for a run that this line stopped, if one did: the answers and what is owed, or the kept events alone.
+// The output of a run, which `stop` may have stopped: the answers and the debts, or only the kept events.
 fn render_run<A: Handle>(
     alloc: A,
     is_kept: bool,
@@ -113,7 +113,7 @@ fn answer<A: Handle + Send + Sync, R: Threads + Sync>(
     }
 }
 
-// The input that the command reads, where neither it nor the model is too long.
+// The input, if the command reads it and neither it nor the model is too long.
 fn read_input<A: Allocator, S: Source>(
     alloc: A,
     command: Command,
@@ -143,10 +143,10 @@ fn read_input<A: Allocator, S: Source>(
     }
 }
 
-/// Reads the whole input, where the command reads it, does what the words asked for on the model that the bytes mean,
-/// and writes the answer in one go. `Unread` with `Device` where a read fails, with `TooMuch` where the model or the
-/// input is over 16,777,216 bytes or the input doesn't end, and with `Memory` where there is none, and then nothing is
-/// written; `Unwritten` where a write fails. It is not for `drive`, which `drive_tool` serves.
+/// Reads the whole input, if the command reads it, runs the command on the model in the bytes, and writes the output at
+/// once. Returns `Unread`, with nothing written, with `Device` if a read fails, with `TooMuch` if the model or the input is
+/// over 16,777,216 bytes or the input doesn't end, and with `Memory` if memory runs out. Returns `Unwritten` if a write
+/// fails. For `drive` use `drive_tool`.
 pub fn run_tool<A: Handle + Send + Sync, R: Threads + Sync, S: Source, W: Sink>(
     rt: &R,
     alloc: A,

@@ -15,7 +15,7 @@ use acta_table::{Event, Kept, Model};
 use acta_words::push_line;
 use std::alloc::{AllocError, Allocator};
 
-// Adds the operations as they were kept, a line each.
+// Adds the operations as kept lines.
 fn render_order<A: Allocator + Copy>(
     alloc: A,
     model: &Model<A>,
@@ -52,7 +52,7 @@ fn report_order<A: Allocator + Copy>(
     })
 }
 
-// The output for what the machine kept.
+// The output for the machine's history.
 fn serialize<A: Handle>(alloc: A, machine: &Machine<A>) -> Result<Report<A>, AllocError>
     ensures { IfOk result (λ report. output_of report ≡ serialized_on machine.now.model machine.now.kept None) }
 {

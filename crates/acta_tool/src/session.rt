@@ -1,4 +1,4 @@
-//! A debugging run: what each command does to the debugger, and its text.
+//! A debugging run: what each command does to the cursor, and its reply.
 
 ghost use Rattle.std.specs.Prelude.{◌≡◌, ◌≢◌, ◌++◌, ◌∷◌, [], codes, length, IfOk, OnOk};
 ghost use Rattle.acta_debug.specs.Moves.{gone_to, stepped, stepped_back, with_break, without_breaks};
@@ -7,14 +7,14 @@ ghost use Rattle.acta_debug.specs.declared.errors.MoveError.TheVariants as block
 ghost use Rattle.acta_words.specs.Text.{text_of};
 ghost use Rattle.acta_tool.specs.Debugging.{at_line, barred_line, behind, break_of, error_word, move_line, moved, run_line, set_line, texts_of, reported_by};
 
-use acta_debug::{Break, Debugger, MoveError, Stop};
+use acta_debug::{Break, Cursor, MoveError, Stop};
 use acta_machine::Handle;
 use acta_script::{BreakOn, DebugCommand};
 use acta_trace::{push_debt_lines, push_status_line, push_value_line};
 use acta_words::{push_line, push_natural, push_word};
 use std::alloc::{AllocError, Allocator};
 
-// The break that a command says.
+// The break that a command names.
 fn break_of(on: BreakOn) -> Break
     ensures { result ≡ break_of on }
 {
@@ -27,7 +27,7 @@ fn break_of(on: BreakOn) -> Break
     }
 }
 
-// Adds where the debugger stands.
+// Adds the place of the debugger.
 fn render_at<A: Allocator>(text: &mut Vec<u8, A>, at: u32) -> Result<(), AllocError>
     ensures { OnOk result (text.new.items ≡ text.old.items ++ text_of (at_line at ∷ [])) }
 {
@@ -36,7 +36,7 @@ fn render_at<A: Allocator>(text: &mut Vec<u8, A>, at: u32) -> Result<(), AllocEr
     push_line(text, b"")
 }
 
-// Why a move can't be made. Running out of memory is no such reason.
+// The word for why a move can't be made. Lack of memory has none.
 fn error_word(error: MoveError) -> Result<&'static [u8], AllocError>
     ensures word { IfOk result (λ word. word.now ≡ error_word error) }
     ensures memory { OnOk result (error ≢ blocked.Memory) }
@@ -61,49 +61,43 @@ fn render_barred<A: Allocator>(text: &mut Vec<u8, A>, error: MoveError) -> Resul
 }
 
 // Moves one event further.
-fn render_step<A: Handle>(
-    debugger: &mut Debugger<A>,
-    text: &mut Vec<u8, A>,
-) -> Result<(), AllocError>
-    ensures reported { OnOk result (text.new.items ≡ text.old.items ++ text_of (move_line (stepped debugger.old) ∷ [])) }
-    ensures moved { OnOk result (debugger.new ≡ moved debugger.old (stepped debugger.old)) }
+fn render_step<A: Handle>(cursor: &mut Cursor<A>, text: &mut Vec<u8, A>) -> Result<(), AllocError>
+    ensures reported { OnOk result (text.new.items ≡ text.old.items ++ text_of (move_line (stepped cursor.old.session) ∷ [])) }
+    ensures moved { OnOk result (cursor.new.session ≡ moved cursor.old.session (stepped cursor.old.session)) }
 {
-    match debugger.step() {
-        Ok(()) => render_at(text, debugger.at()),
+    match cursor.step() {
+        Ok(()) => render_at(text, cursor.at()),
         Err(error) => render_barred(text, error),
     }
 }
 
 // Moves one event back.
-fn render_back<A: Handle>(
-    debugger: &mut Debugger<A>,
-    text: &mut Vec<u8, A>,
-) -> Result<(), AllocError>
-    ensures reported { OnOk result (text.new.items ≡ text.old.items ++ text_of (move_line (stepped_back debugger.old) ∷ [])) }
-    ensures moved { OnOk result (debugger.new ≡ moved debugger.old (stepped_back debugger.old)) }
+fn render_back<A: Handle>(cursor: &mut Cursor<A>, text: &mut Vec<u8, A>) -> Result<(), AllocError>
+    ensures reported { OnOk result (text.new.items ≡ text.old.items ++ text_of (move_line (stepped_back cursor.old.session) ∷ [])) }
+    ensures moved { OnOk result (cursor.new.session ≡ moved cursor.old.session (stepped_back cursor.old.session)) }
 {
-    match debugger.back() {
-        Ok(()) => render_at(text, debugger.at()),
+    match cursor.back() {
+        Ok(()) => render_at(text, cursor.at()),
         Err(error) => render_barred(text, error),
     }
 }
 
-// Moves to the place after so many events.
+// Moves to the place after this many events.
 fn render_goto<A: Handle>(
-    debugger: &mut Debugger<A>,
+    cursor: &mut Cursor<A>,
     n: u32,
     text: &mut Vec<u8, A>,
 ) -> Result<(), AllocError>
-    ensures reported { OnOk result (text.new.items ≡ text.old.items ++ text_of (move_line (gone_to debugger.old n) ∷ [])) }
-    ensures moved { OnOk result (debugger.new ≡ moved debugger.old (gone_to debugger.old n)) }
+    ensures reported { OnOk result (text.new.items ≡ text.old.items ++ text_of (move_line (gone_to cursor.old.session n) ∷ [])) }
+    ensures moved { OnOk result (cursor.new.session ≡ moved cursor.old.session (gone_to cursor.old.session n)) }
 {
-    match debugger.goto(n) {
-        Ok(()) => render_at(text, debugger.at()),
+    match cursor.goto(n) {
+        Ok(()) => render_at(text, cursor.at()),
         Err(error) => render_barred(text, error),
     }
 }
 
-// Adds where a run over so many events has stopped.
+// Adds where a run over a history of `last` events stopped.
 fn render_stop<A: Allocator>(text: &mut Vec<u8, A>, last: u32, stop: Stop) -> Result<(), AllocError>
     ensures { OnOk result (text.new.items ≡ text.old.items ++ text_of (run_line last stop ∷ [])) }
 {
@@ -124,28 +118,25 @@ fn render_stop<A: Allocator>(text: &mut Vec<u8, A>, last: u32, stop: Stop) -> Re
 }
 
 // Runs on.
-fn render_run<A: Handle>(
-    debugger: &mut Debugger<A>,
-    text: &mut Vec<u8, A>,
-) -> Result<(), AllocError>
-    ensures reported { OnOk result (text.new.items ≡ text.old.items ++ text_of (run_line (length debugger.old.history) (stop_of debugger.old) ∷ [])) }
-    ensures moved { OnOk result (debugger.new ≡ run_to_stop debugger.old) }
+fn render_run<A: Handle>(cursor: &mut Cursor<A>, text: &mut Vec<u8, A>) -> Result<(), AllocError>
+    ensures reported { OnOk result (text.new.items ≡ text.old.items ++ text_of (run_line (length cursor.old.session.history) (stop_of cursor.old.session) ∷ [])) }
+    ensures moved { OnOk result (cursor.new.session ≡ run_to_stop cursor.old.session) }
 {
-    let last = debugger.last();
-    let stop = debugger.run()?;
+    let last = cursor.last();
+    let stop = cursor.run()?;
     render_stop(text, last, stop)
 }
 
 // Adds a break.
 fn render_break<A: Handle>(
-    debugger: &mut Debugger<A>,
+    cursor: &mut Cursor<A>,
     on: BreakOn,
     text: &mut Vec<u8, A>,
 ) -> Result<(), AllocError>
-    ensures reported { OnOk result (text.new.items ≡ text.old.items ++ text_of (set_line (length (with_break debugger.old (break_of on)).breaks) ∷ [])) }
-    ensures added { OnOk result (debugger.new ≡ with_break debugger.old (break_of on)) }
+    ensures reported { OnOk result (text.new.items ≡ text.old.items ++ text_of (set_line (length (with_break cursor.old.session (break_of on)).breaks) ∷ [])) }
+    ensures added { OnOk result (cursor.new.session ≡ with_break cursor.old.session (break_of on)) }
 {
-    let number = debugger.add_break(break_of(on))?;
+    let number = cursor.add_break(break_of(on))?;
     text.extend_from_slice(b"break")?;
     push_natural(text, number)?;
     push_word(text, b"set")?;
@@ -153,14 +144,11 @@ fn render_break<A: Handle>(
 }
 
 // Takes away all breaks.
-fn render_clear<A: Handle>(
-    debugger: &mut Debugger<A>,
-    text: &mut Vec<u8, A>,
-) -> Result<(), AllocError>
+fn render_clear<A: Handle>(cursor: &mut Cursor<A>, text: &mut Vec<u8, A>) -> Result<(), AllocError>
     ensures reported { OnOk result (text.new.items ≡ text.old.items ++ text_of (codes "cleared" ∷ [])) }
-    ensures cleared { OnOk result (debugger.new ≡ without_breaks debugger.old) }
+    ensures cleared { OnOk result (cursor.new.session ≡ without_breaks cursor.old.session) }
 {
-    debugger.clear_breaks();
+    cursor.clear_breaks();
     push_line(text, b"cleared")
 }
 
@@ -168,37 +156,46 @@ fn render_clear<A: Handle>(
 #[tactic(auto, unfolding(crate::specs::Debugging::reported_by, crate::specs::Debugging::behind))]
 fn render_command<A: Handle>(
     alloc: A,
-    debugger: &mut Debugger<A>,
+    cursor: &mut Cursor<A>,
     command: DebugCommand,
     text: &mut Vec<u8, A>,
 ) -> Result<(), AllocError>
-    ensures reported { OnOk result (text.new.items ≡ text.old.items ++ text_of (reported_by debugger.old command)) }
-    ensures behind { OnOk result (debugger.new ≡ behind debugger.old command) }
+    ensures reported { OnOk result (text.new.items ≡ text.old.items ++ text_of (reported_by cursor.old.session command)) }
+    ensures behind { OnOk result (cursor.new.session ≡ behind cursor.old.session command) }
 {
     match command {
-        DebugCommand::Step => render_step(debugger, text),
-        DebugCommand::Back => render_back(debugger, text),
-        DebugCommand::Goto(n) => render_goto(debugger, n, text),
-        DebugCommand::Run => render_run(debugger, text),
-        DebugCommand::Break(on) => render_break(debugger, on, text),
-        DebugCommand::Clear => render_clear(debugger, text),
-        DebugCommand::Value(object) => push_value_line(alloc, debugger.machine(), object, text),
-        DebugCommand::Status(t) => push_status_line(debugger.machine(), t, text),
-        DebugCommand::Owed => push_debt_lines(alloc, debugger.machine(), text),
+        DebugCommand::Step => render_step(cursor, text),
+        DebugCommand::Back => render_back(cursor, text),
+        DebugCommand::Goto(n) => render_goto(cursor, n, text),
+        DebugCommand::Run => render_run(cursor, text),
+        DebugCommand::Break(on) => render_break(cursor, on, text),
+        DebugCommand::Clear => render_clear(cursor, text),
+        DebugCommand::Value(object) => {
+            cursor.settle()?;
+            push_value_line(alloc, cursor.machine(), object, text)
+        }
+        DebugCommand::Status(t) => {
+            cursor.settle()?;
+            push_status_line(cursor.machine(), t, text)
+        }
+        DebugCommand::Owed => {
+            cursor.settle()?;
+            push_debt_lines(alloc, cursor.machine(), text)
+        }
     }
 }
 
 /// Does the commands, one after another, and adds their replies. On `Err` some may have been done.
 pub fn render_commands<A: Handle>(
     alloc: A,
-    debugger: &mut Debugger<A>,
+    cursor: &mut Cursor<A>,
     commands: &[DebugCommand],
     text: &mut Vec<u8, A>,
 ) -> Result<(), AllocError>
-    ensures { OnOk result (text.new.items ≡ text.old.items ++ text_of (texts_of debugger.old commands.now)) }
+    ensures { OnOk result (text.new.items ≡ text.old.items ++ text_of (texts_of cursor.old.session commands.now)) }
 {
     for command in commands {
-        render_command(alloc, debugger, *command, text)?;
+        render_command(alloc, cursor, *command, text)?;
     }
     Ok(())
 }

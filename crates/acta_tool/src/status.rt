@@ -1,4 +1,4 @@
-//! The number with which the program ends.
+//! The exit status of the program.
 
 ghost use Rattle.std.specs.Prelude.{◌≡◌};
 ghost use Rattle.acta_tool.specs.Outcome.{exit_status_of};
@@ -10,7 +10,7 @@ use acta_locked::DriveError;
 /// Why no command ran to its end.
 #[derive(Debug, Drop)]
 pub enum Failure {
-    /// The words of the command line ask for nothing.
+    /// The command line was rejected.
     Words(UsageFault),
     /// The threads of a driven run gave no result: memory ran out, or no thread could be started. Nothing was written.
     Undriven(DriveError),
@@ -26,8 +26,8 @@ impl From<UsageFault> for Failure {
     }
 }
 
-/// The exit status of the program: 0 if all was answered, 1 if the model or a line was refused, 2 if the words of the
-/// command line are wrong, and 3 if a read, a write, a thread or the memory failed.
+/// The exit status of the program: 0 if everything was answered, 1 if the model or a line was refused, 2 if the command line
+/// is wrong, and 3 if a read, a write, a thread or memory failed.
 pub fn exit_status(outcome: &Result<Outcome, Failure>) -> u8
     ensures { result ≡ exit_status_of outcome.now }
 {

@@ -1,4 +1,4 @@
-//! The command `trace`: the answer to each event, with the line in which it stands and what it formed.
+//! The command `trace`: the answer to each event, with the event's line and what it formed.
 
 ghost use Rattle.std.specs.Prelude.{◌≡◌, ◌<◌, ◌≤◌, ◌+◌, ◌++◌, ◌∷◌, [], drop, flat_map, get_or, length, IfOk, OnOk};
 ghost use Rattle.acta_machine.specs.Table.{after_all, edges_in};
@@ -48,7 +48,7 @@ fn render_edge<A: Allocator>(
     Ok(())
 }
 
-// Adds the edges that are new; so many were in force before.
+// Adds the new edges, those after the first `before`.
 fn render_edges<A: Allocator>(
     text: &mut Vec<u8, A>,
     before: usize,
@@ -65,7 +65,7 @@ fn render_edges<A: Allocator>(
     Ok(())
 }
 
-// The edges behind so many.
+// The edges after the first `before`.
 fn behind(edges: &[Edge], before: usize) -> &[Edge]
     ensures { result.now ≡ drop before edges.now }
 {
@@ -76,7 +76,7 @@ fn behind(edges: &[Edge], before: usize) -> &[Edge]
     }
 }
 
-// Adds a step of the machine, which it has just taken: its line, the answer, the event, and what it formed.
+// Adds a step that the machine has just taken: its line, the answer, the event, and what it formed.
 fn render_step<A: Handle>(
     alloc: A,
     machine: &Machine<A>,
@@ -100,7 +100,7 @@ fn render_step<A: Handle>(
     Ok(())
 }
 
-// The number of this line, or 0 where there is none.
+// The number of the kth line, or 0 if there is none.
 fn line_at(lines: &[usize], k: usize) -> usize
     ensures { result ≡ get_or lines.now k 0 }
 {

@@ -44,12 +44,12 @@ operations_line ops = codes "operations" ++ flat_map (λ op. 32 ∷ decimal op.0
 abbrev pub edge_line : ℕ → Edge → List ℕ
 edge_line n e = line_of (codes "edge" ∷ decimal n ∷ word_of e.kind ∷ txn_word e.j ∷ txn_word e.i ∷ [])
 
--- whether the transaction is one of the two of the edge; where none is named, each edge passes
+-- whether the transaction is one of the edge's two; true for every edge if none is named
 abbrev pub is_of : Option TxnId → Edge → Bool
 is_of None e = true
 is_of (Some t) e = (e.j.0 == t.0) || (e.i.0 == t.0)
 
--- the lines of the edges of a transaction among these, where so many edges were before them
+-- the lines of a transaction's edges among these, which follow this many earlier edges
 abbrev pub edge_lines_from : Option TxnId → ℕ → List Edge → List (List ℕ)
 edge_lines_from t n [] = []
 edge_lines_from t n (e ∷ es) = (if is_of t e then edge_line (n + 1) e ∷ [] else []) ++ edge_lines_from t (n + 1) es
@@ -61,7 +61,7 @@ edge_lines state t = edge_lines_from t 0 (edges_in state)
 abbrev pub permit_line : {A : Type 0} → Parts A → Permit → List ℕ
 permit_line m p = line_of (codes "permit" ∷ txn_word p.by ∷ txn_word p.to ∷ object_word m p.object ∷ [])
 
--- the lines of the permits in force, each once: by who was permitted, then by object, then by who has permitted it
+-- the lines of the permits in force, each once, ordered by the permitted transaction, the object, the permitting transaction
 pub record ArePermitLines {A : Type 0} (state : State A) (lines : List (List ℕ)) : Type 0 where
   pub permits : List Permit
   pub all : (h t object : ℕ) → is_listed permits h t object ≡ permitted_in state h t object
@@ -82,7 +82,7 @@ status_lines_of state (k ∷ ks) = started_line state (started k.event) ++ statu
 abbrev pub status_lines : {A : Type 0} → State A → List (List ℕ)
 status_lines state = status_lines_of state state.kept
 
--- the values of these objects, of which the first has this number
+-- the values of these objects, the first of which has this number
 abbrev pub value_lines_from : {A : Type 0} → State A → ℕ → List (Object A) → List (List ℕ)
 value_lines_from state n [] = []
 value_lines_from state n (ob ∷ obs) = value_line state (record { 0 = n }) ∷ value_lines_from state (n + 1) obs
@@ -90,6 +90,6 @@ value_lines_from state n (ob ∷ obs) = value_line state (record { 0 = n }) ∷ 
 abbrev pub value_lines : {A : Type 0} → State A → List (List ℕ)
 value_lines state = value_lines_from state 0 state.model.objects
 
--- the statuses of the transactions, the values of the objects, and what is owed
+-- the statuses of the transactions, the values of the objects, and the debts
 abbrev pub state_lines : {A : Type 0} → State A → List (List ℕ)
 state_lines state = status_lines state ++ (value_lines state ++ map owed_line (debts_in state))

@@ -1,4 +1,4 @@
--- What a step of a run says.
+-- The steps of a run.
 use Rattle.std.specs.Prelude.{ℕ, ◌&&◌, ◌==◌, ◌<◌, ◌≤◌, IfSome, List, Bool, true, false, nat_lt, nat_le, length, option_map, if◌then◌else◌, Option, Some, None}
 use Rattle.acta_table.specs.declared.answer.Answer.{Answer}
 use Rattle.acta_table.specs.declared.answer.Answer.TheVariants.{Admitted, Refused}
@@ -38,7 +38,7 @@ began step = if is_admitted step.answer then started step.event else None
 abbrev pub ended : {A : Type 0} → Step A → Option ℕ
 ended step = if is_admitted step.answer then ended_by step.event else None
 
--- whether there is a number, and it is this one
+-- whether there is a number and it is this one
 abbrev pub is_number : Option ℕ → ℕ → Bool
 is_number None n = false
 is_number (Some m) n = m == n
@@ -59,8 +59,8 @@ does n step = is_number (option_map (λ op. op.0) step.op) n
 abbrev pub forms : {A : Type 0} → ℕ → Step A → Bool
 forms n step = nat_lt step.edges_before n && nat_le n step.edges_after
 
--- for which numbers of transactions that begin and end, of operations and of edges there is room, those below these, and for
--- how many more steps
+-- the numbers for which there is room, those below these bounds, of transactions that begin and end, operations and edges;
+-- and room for how many more steps
 pub record Room : Type 0 where
   pub begun : ℕ
   pub ended : ℕ
@@ -73,7 +73,7 @@ pub record Listed (A : Type 0) : Type 0 where
   pub steps : List (Step A)
   pub room : Room
 
--- there is room for the step
+-- there is room for this step
 pub record Fits {A : Type 0} (room : Room) (step : Step A) : Type 0 where
   pub begun : IfSome (began step) (λ t. t < room.begun)
   pub ended : IfSome (ended step) (λ t. t < room.ended)
@@ -81,7 +81,7 @@ pub record Fits {A : Type 0} (room : Room) (step : Step A) : Type 0 where
   pub edges : step.edges_after < room.edges
   pub more : 0 < room.more
 
--- there is room for any step of the event with these numbers at most
+-- there is room for any step of the event with at most these numbers
 pub record FitsEvent {A : Type 0} (room : Room) (event : Event A) (last_op last_edge : ℕ) : Type 0 where
   pub begun : IfSome (started event) (λ t. t < room.begun)
   pub ended : IfSome (ended_by event) (λ t. t < room.ended)

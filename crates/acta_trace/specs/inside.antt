@@ -1,3 +1,3 @@
--- What the contracts inside the crate cite.
+-- Definitions used only by internal contracts and proofs. The public contracts can be read without them.
 pub mod Firsts
 pub mod Kept

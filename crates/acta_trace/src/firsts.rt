@@ -1,4 +1,4 @@
-//! The first step for each number: for each transaction the one that began it, for each operation the one that did it.
+//! The first step for each number: for each transaction the step that began it, for each operation the step that did it.
 
 ghost use Rattle.std.specs.Prelude.{◌≡◌, ◌&&◌, ◌<◌, ◌≤◌, ℕ, [], None, get_or, length, nat_lt, nat_le, IfSome, OnOk};
 ghost use Rattle.acta_trace.specs.Steps.{is_number};
@@ -7,14 +7,14 @@ ghost use Rattle.acta_trace.specs.inside.Firsts.{forgotten, noted};
 use acta_table::lengthen;
 use std::alloc::{AllocError, Allocator};
 
-/// For each number the place of a step among the steps, from 0.
+/// For each number the place of a step in the list of steps, from 0.
 #[derive(Drop)]
 pub(crate) struct Firsts<A: Allocator> {
     pub(crate) places: Vec<Option<usize>, A>,
 }
 
 impl<A: Allocator> Firsts<A> {
-    /// No number has a step. Allocates nothing.
+    /// No number has a step. Does not allocate.
     pub(crate) fn new(alloc: A) -> Firsts<A>
         ensures { result.places.items ≡ [] }
     {
@@ -23,7 +23,7 @@ impl<A: Allocator> Firsts<A> {
         }
     }
 
-    /// Makes room for the number, if there is one. Returns `Err` too where no list can be so long.
+    /// Makes room for the number, if one is given. Returns `Err` also if no list can be that long.
     pub(crate) fn make_room(&mut self, number: Option<usize>) -> Result<(), AllocError>
         ensures same { (n : ℕ) → get_or self.new.places.items n None ≡ get_or self.old.places.items n None }
         ensures room { OnOk result (IfSome number (λ n. n < length self.new.places.items)) }
@@ -37,7 +37,7 @@ impl<A: Allocator> Firsts<A> {
         }
     }
 
-    /// Notes the step at this place for the number, if there is a number and it has no step.
+    /// Notes the step at this place for the number, if one is given and has no step yet.
     pub(crate) fn note(&mut self, number: Option<usize>, place: usize)
         requires { IfSome number (λ n. n < length self.old.places.items) }
         ensures noted { (n : ℕ) → get_or self.new.places.items n None ≡ noted (is_number number) self.old.places.items place n }
@@ -51,7 +51,7 @@ impl<A: Allocator> Firsts<A> {
         }
     }
 
-    /// Notes the step at this place for each of the numbers after the first and up to the last that has no step.
+    /// Notes the step at this place for each number after `first` and up to `last` that has no step yet.
     pub(crate) fn note_all(&mut self, first: usize, last: usize, place: usize)
         requires { last < length self.old.places.items }
         ensures noted { (n : ℕ) → get_or self.new.places.items n None ≡ noted (λ n. nat_lt first n && nat_le n last) self.old.places.items place n }
@@ -65,7 +65,7 @@ impl<A: Allocator> Firsts<A> {
         }
     }
 
-    /// Forgets the step at this place for the number, if there is a number and this is its step.
+    /// Forgets the step at this place for the number, if one is given and this is its step.
     pub(crate) fn forget(&mut self, number: Option<usize>, place: usize)
         ensures forgotten { (n : ℕ) → get_or self.new.places.items n None ≡ forgotten (is_number number) self.old.places.items place n }
     {
@@ -77,7 +77,7 @@ impl<A: Allocator> Firsts<A> {
         }
     }
 
-    /// Forgets the step at this place for each of the numbers after the first and up to the last.
+    /// Forgets the step at this place for each number after `first` and up to `last`.
     pub(crate) fn forget_all(&mut self, first: usize, last: usize, place: usize)
         ensures forgotten { (n : ℕ) → get_or self.new.places.items n None ≡ forgotten (λ n. nat_lt first n && nat_le n last) self.old.places.items place n }
     {

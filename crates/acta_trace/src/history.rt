@@ -11,7 +11,7 @@ use acta_table::{Kept, Model};
 use acta_words::push_line;
 use std::alloc::AllocError;
 
-/// Adds the kept lines of the history: its events with what they returned.
+/// Adds the kept lines of the history: its events with their returns.
 pub fn push_kept_lines<A: Handle>(
     alloc: A,
     machine: &Machine<A>,

@@ -34,7 +34,7 @@ fn number_of_op(op: Option<OpNo>) -> Option<usize>
 }
 
 impl<A: Allocator + Copy> Index<A> {
-    /// Of a list that has no step.
+    /// The index of an empty list.
     pub(crate) fn new(alloc: A) -> Index<A>
         ensures { IsIndexed [] result }
     {
@@ -48,8 +48,8 @@ impl<A: Allocator + Copy> Index<A> {
 }
 
 impl<A: Allocator> Index<A> {
-    /// Makes room for a step of the event, whose operation has at most this number, and after which there are at most so many
-    /// edges.
+    /// Makes room for a step of the event, whose operation has at most the number `op`, and after which at most `edges`
+    /// edges are in force.
     pub(crate) fn reserve(
         &mut self,
         event: &Event<A>,

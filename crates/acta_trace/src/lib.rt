@@ -1,8 +1,8 @@
-//! A run as a list of steps: for each event the line that says it, the answer, and what it formed. And the history and the
-//! state of a machine, as lines.
+//! A run as a list of steps: for each event its line, the answer, and what it formed. Also the history and the state of a
+//! machine, as lines.
 //!
-//! Renderers of a run read its steps: a table of answers, a picture, a witness. What a sentence refers to, as the line of an
-//! operation or of the event that ended a transaction, is a step that this crate finds. A call that allocates returns `Err`
+//! Renderers of a run read its steps: a table of answers, a picture, a witness. This crate finds the step that a sentence
+//! refers to, such as the line of an operation or of the event that ended a transaction. A call that allocates returns `Err`
 //! if memory runs out.
 #![tactic(auto)]
 

@@ -17,7 +17,7 @@ use acta_table::{Edge, Kept, Model, ObjId, OpNo, Owed, TxnId};
 use acta_words::{push_integer, push_line, push_natural, push_word};
 use std::alloc::{AllocError, Allocator};
 
-/// Adds how a transaction stands.
+/// Adds the status of a transaction.
 pub fn push_status_line<A: Handle>(
     machine: &Machine<A>,
     t: TxnId,
@@ -88,7 +88,7 @@ pub fn push_value_line<A: Handle>(
     push_line(text, b"")
 }
 
-/// Adds these debts, a line each.
+/// Adds these debts, one per line.
 pub fn push_owed_lines<A: Allocator + Copy>(
     alloc: A,
     owed: &[Owed],
@@ -102,7 +102,7 @@ pub fn push_owed_lines<A: Allocator + Copy>(
     Ok(())
 }
 
-/// Adds what is owed, a line for each debt.
+/// Adds the debts, one per line.
 pub fn push_debt_lines<A: Handle>(
     alloc: A,
     machine: &Machine<A>,
@@ -156,7 +156,7 @@ pub fn push_conflicts_line<A: Handle>(
     push_operations(alloc, set.as_slice(), text)
 }
 
-/// Whether the transaction is one of the two of the edge; where none is named, each edge passes.
+/// Whether the transaction is one of the edge's two; true for every edge if none is named.
 pub fn is_edge_of(edge: &Edge, t: Option<TxnId>) -> bool
     ensures { result ≡ is_of t edge.now }
 {
@@ -189,7 +189,7 @@ fn push_edge<A: Allocator>(
     push_line(text, b"")
 }
 
-/// Adds the edges in force, a line each, or those of a transaction.
+/// Adds the edges in force, one per line, or only those of a transaction.
 pub fn push_edge_lines<A: Handle>(
     machine: &Machine<A>,
     t: Option<TxnId>,
@@ -220,7 +220,7 @@ fn push_permit<A: Allocator>(
     push_line(text, b"")
 }
 
-// Adds permits, a line each.
+// Adds permits, one per line.
 fn push_permits<A: Allocator>(
     model: &Model<A>,
     permits: &[Permit],
@@ -234,7 +234,7 @@ fn push_permits<A: Allocator>(
     Ok(())
 }
 
-/// Adds the permits in force, a line each.
+/// Adds the permits in force, one per line.
 pub fn push_permit_lines<A: Handle>(
     machine: &Machine<A>,
     text: &mut Vec<u8, A>,
@@ -286,7 +286,7 @@ fn push_value_lines<A: Handle>(
     Ok(())
 }
 
-/// Adds the statuses of the transactions, in the order in which they began, the values of the objects, and what is owed.
+/// Adds the statuses of the transactions, in the order in which they began, the values of the objects, and the debts.
 pub fn push_state_lines<A: Handle>(
     alloc: A,
     machine: &Machine<A>,

@@ -6,10 +6,10 @@ ghost use Rattle.acta_trace.specs.Steps.{began, ended, ended_by, is_admitted};
 use acta_table::{Answer, Event, OpNo, TxnId};
 use std::alloc::Allocator;
 
-/// An event that a machine took, and what became of it.
+/// An event that a machine took, its answer and what it formed.
 #[derive(Drop)]
 pub struct Step<A: Allocator> {
-    /// The number of the line that says the event.
+    /// The number of the event's line.
     pub line: usize,
     pub event: Event<A>,
     pub answer: Answer,
@@ -21,7 +21,7 @@ pub struct Step<A: Allocator> {
     pub edges_after: usize,
 }
 
-/// The transaction that the event ends if it is admitted: one that commits, aborts or joins another.
+/// The transaction that the event ends if it is admitted: it commits, aborts or joins another.
 pub(crate) fn ended_by<A: Allocator>(event: &Event<A>) -> Option<TxnId>
     ensures { option_map (λ t. t.0) result ≡ ended_by event.now }
 {

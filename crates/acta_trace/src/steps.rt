@@ -1,4 +1,4 @@
-//! A list of steps in which each is found by what it did.
+//! A list of steps, indexed by what they did.
 
 ghost use Rattle.std.specs.Prelude.{◌≡◌, ◌-◌, ◌++◌, ◌∷◌, [], OnErr, OnOk, length, take};
 ghost use Rattle.std.specs.List.{position};
@@ -9,8 +9,8 @@ use crate::step::Step;
 use acta_table::{Event, OpNo, TxnId};
 use std::alloc::{AllocError, Allocator};
 
-/// Steps in order. The step that began or ended a transaction, did an operation or formed an edge is found by the number.
-/// Contracts see the steps, and for which numbers there is room.
+/// Steps in order, indexed: the step that began or ended a transaction, did an operation or formed an edge is found by its
+/// number. Contracts see the steps, and for which numbers there is room.
 #[derive(Drop)]
 pub struct Steps<A: Allocator> {
     list: Vec<Step<A>, A>,
@@ -30,7 +30,7 @@ impl<A: Allocator> std::marker::Model for Steps<A> {
 }
 
 impl<A: Allocator + Copy> Steps<A> {
-    /// No steps. Allocates nothing.
+    /// No steps. Does not allocate.
     pub fn new(alloc: A) -> Steps<A>
         ensures { result.steps ≡ [] }
     {
@@ -42,8 +42,8 @@ impl<A: Allocator + Copy> Steps<A> {
 }
 
 impl<A: Allocator> Steps<A> {
-    /// Makes room for a step of the event, whose operation has at most this number, and after which there are at most so many
-    /// edges. The steps stay as they are.
+    /// Makes room for a step of the event, whose operation has at most the number `op`, and after which at most `edges`
+    /// edges are in force. The steps stay unchanged.
     pub fn reserve(&mut self, event: &Event<A>, op: usize, edges: usize) -> Result<(), AllocError>
         ensures same { self.new.steps ≡ self.old.steps }
         ensures room { OnOk result (FitsEvent self.new.room event.now op edges) }
@@ -62,7 +62,7 @@ impl<A: Allocator> Steps<A> {
         self.list.push_reserved(step);
     }
 
-    /// Adds a step. The step is lost on `Err`, and the others stay as they are.
+    /// Adds a step. On `Err` the step is lost, and the others are unchanged.
     pub fn push(&mut self, step: Step<A>) -> Result<(), AllocError>
         ensures ok { OnOk result (self.new.steps ≡ self.old.steps ++ step ∷ []) }
         ensures err { OnErr result (self.new.steps ≡ self.old.steps) }
@@ -85,7 +85,7 @@ impl<A: Allocator> Steps<A> {
         }
     }
 
-    /// Takes away all but the first steps, so many. Does nothing if there are no more.
+    /// Keeps the first `len` steps. Does nothing if there are no more.
     pub fn truncate(&mut self, len: usize)
         ensures { self.new.steps ≡ take len self.old.steps }
     {

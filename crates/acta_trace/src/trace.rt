@@ -27,7 +27,7 @@ impl<A: Handle> std::marker::Model for Trace<A> {
     ghost view = { λ t. record { state = t.machine; steps = t.steps.steps } };
 }
 
-/// Takes the event of a line, and returns what became of it. The event is lost on `Err`, and the machine stays as it was.
+/// Gives the machine the event of a line, and returns the step. On `Err` the event is lost, and the machine is unchanged.
 pub fn take_step<A: Handle>(
     machine: &mut Machine<A>,
     line: usize,
@@ -61,8 +61,8 @@ impl<A: Handle> Trace<A> {
         })
     }
 
-    /// Takes the event that a line says, and answers as the machine does. The step of an event that is refused is kept only if
-    /// `keeps_refused` says so. On `Err` the run stays as it was.
+    /// Gives the machine the event of a line, and returns its answer. The step of a refused event is kept only if
+    /// `keeps_refused`. On `Err` the run is unchanged.
     #[tactic(auto, unfolding(crate::specs::Traces::taken))]
     pub fn take(
         &mut self,

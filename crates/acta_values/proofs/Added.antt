@@ -1,4 +1,4 @@
--- Kept values with one more operation.
+-- Current values with one more operation.
 use Rattle.std.proofs.Common.{◌≡◌, ℕ, ◌+◌, ◌<◌, ◌≤◌, inl, inr, List, [], ◌∷◌, ◌++◌, length, get_or, set, Some, sym, ap, ◌∙◌, subst, arith}
 use Rattle.std.specs.Prelude.{slice_get}
 use Rattle.std.proofs.lemmas.Bool.{cases_eq}
@@ -26,7 +26,7 @@ length_push (y ∷ xs) x = let later = length_push xs x in omega (arith, later)
 pub length_set : {X : Type 0} (xs : List X) (i : ℕ) (x : X) → length (set xs i x) ≡ length xs
 length_set xs i x = simp Rattle.std.proofs.Math.ListN.length-set
 
--- where the value of the operation's object takes it, the values do
+-- if the value of the operation's object accepts it, the values do
 pub added_after : {A : Type 0} (kinds : List Kind) (items : List HeldOp) (values : List (LiveValue A)) (number : ℕ) (t : TxnId) (ob : ObjId) (op : Op) (d new : LiveValue A)
     → AreAfter kinds items values → ob.0 < length values → number ≡ length items + 1 → length items < MOST_EVENTS
     → ((kind : Kind) (ops : List (Numbered Op)) → IsAfter kind ops (get_or values ob.0 d) → AreBelow number ops → length ops < MOST_EVENTS → IsAfter kind (ops ++ (record { number = number; item = op }) ∷ []) new)
@@ -52,7 +52,7 @@ added_after {A = A} kinds items values number t ob op d new after within next ro
               subst (λ (os : List (Numbered Op)). IsAfter kind os value) (sym (added_other k items t ob op other)) before
         ]
 
--- an operation on no object changes no value
+-- an operation on a missing object changes no value
 pub added_nowhere : {A : Type 0} (kinds : List Kind) (items : List HeldOp) (values : List (LiveValue A)) (t : TxnId) (ob : ObjId) (op : Op)
     → AreAfter kinds items values → length values ≤ ob.0 → length items < MOST_EVENTS → AreAfter kinds (added items t ob op) values
 added_nowhere {A = A} kinds items values t ob op after past room = record {

@@ -1,4 +1,4 @@
--- What operations make of a counter: the sum of what they add, which stays small.
+-- The effect of operations on a counter: the sum of the amounts, which stays small.
 use Rattle.std.proofs.Common.{◌≡◌, ℕ, ◌+◌, ◌≤◌, List, [], ◌∷◌, ◌++◌, length, fold, refl, ap, ◌∙◌, subst, arith, w32, w64}
 use Rattle.std.specs.Prelude.{ℤ, ◌+ℤ◌, ◌-ℤ◌, FitsSigned}
 use Rattle.std.specs.List.{AllByRecursion}
@@ -23,7 +23,7 @@ pub sum_push : (v : ℤ) (ops : List (Numbered Op)) (o : Numbered Op) → sum_af
 sum_push v [] o = refl
 sum_push v (p ∷ ops) o = sum_push (counter_step v p.item) ops o
 
--- more at first is as much more at last
+-- a larger initial sum gives a final sum larger by the same amount
 sum_shifted : (v a : ℤ) (ops : List (Numbered Op)) → sum_after (v +ℤ a) ops ≡ sum_after v ops +ℤ a
 sum_shifted v a [] = refl
 sum_shifted v a (o ∷ ops) =
@@ -32,7 +32,7 @@ sum_shifted v a (o ∷ ops) =
     shifted : counter_step (v +ℤ a) o.item ≡ counter_step v o.item +ℤ a
     shifted = let p = step_adds (v +ℤ a) o.item in let q = step_adds v o.item in omega (arith, ints, p, q)
 
--- one among the others adds its amount
+-- an operation among the others adds its amount
 pub sum_among : (v : ℤ) (front : List (Numbered Op)) (o : Numbered Op) (back : List (Numbered Op)) → sum_after v (front ++ o ∷ back) ≡ sum_after v (front ++ back) +ℤ amount o.item
 sum_among v [] o back = ap (λ z. sum_after z back) (step_adds v o.item) ∙ sum_shifted v (amount o.item) back
 sum_among v (p ∷ front) o back = sum_among (counter_step v p.item) front o back
@@ -49,11 +49,11 @@ near_from m v (o ∷ ops) near fits =
 near_first : (v : ℤ) → FitsSigned w32 v → IsNear 1 v
 near_first v fits = record { low = omega (arith, ints, fits); high = omega (arith, ints, fits) }
 
--- the sum is near to zero
+-- the sum is near zero
 pub sum_near : (v : ℤ) (ops : List (Numbered Op)) → FitsSigned w32 v → AllByRecursion (λ o. AmountFits o.item) ops → IsNear (length ops + 1) (sum_after v ops)
 sum_near v ops first fits = subst (λ k. IsNear k (sum_after v ops)) (omega arith) (near_from 1 v ops (near_first v first) fits)
 
--- what is near fits 64 bits
+-- a sum near zero fits 64 bits
 pub near_fits : (m : ℕ) (v : ℤ) → m ≤ 65538 → IsNear m v → FitsSigned w64 v
 near_fits m v few near = omega (arith, ints, few, near.low, near.high)
 

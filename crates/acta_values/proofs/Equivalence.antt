@@ -1,4 +1,4 @@
--- What changes nothing about the values: that operations are committed, or held by another.
+-- Commits and transfers do not change values.
 use Rattle.std.proofs.Common.{◌≡◌, ℕ, ◌+◌, ◌==◌, Bool, true, false, not, ◌&&◌, cond, List, [], ◌∷◌, length, Some, None, refl, sym, ap, subst, arith}
 use Rattle.std.specs.Prelude.{option_map, Result, Ok, Err, OnOk, OnErr}
 use Rattle.std.specs.List.{cons_option}
@@ -92,13 +92,13 @@ transferred_of_after kinds items values t ops u after = equivalent_after kinds i
 pub moved_after : {A : Type 0} (kinds : List Kind) (items : List HeldOp) (values : List (LiveValue A)) (ops : List OpNo) (u : TxnId) → AreAfter kinds items values → AreAfter kinds (moved ops u items) values
 moved_after kinds items values ops u after = equivalent_after kinds items (moved ops u items) values (moved_equivalent 1 ops u items) after
 
--- of two that can't be otherwise, it is committed
+-- a fate that is neither in progress nor aborted is committed
 pub is_committed-closed : (f : Fate) → is_open f ≡ false → (f ≡ Aborted → ⊥) → f ≡ Committed
 is_committed-closed InProgress closed other = cc
 is_committed-closed Committed closed other = refl
 is_committed-closed Aborted closed other = absurd (other refl)
 
--- where operations are handed on, or stay as they were, the values stay
+-- the values are right whether a transfer succeeds or changes nothing
 pub transferred_or_not : {A X E : Type 0} (kinds : List Kind) (old new transferred : List HeldOp) (values : List (LiveValue A)) (r : Result X E) → OnOk r (new ≡ transferred) → OnErr r (new ≡ old) → AreAfter kinds transferred values → AreAfter kinds old values → AreAfter kinds new values
 transferred_or_not kinds old new transferred values (Ok x) ok err moved stays = subst (λ (items : List HeldOp). AreAfter kinds items values) (sym ok) moved
 transferred_or_not kinds old new transferred values (Err e) ok err moved stays = subst (λ (items : List HeldOp). AreAfter kinds items values) (sym err) stays

@@ -33,7 +33,7 @@ one_at_most : (b : Bool) → one_if b ≤ 1
 one_at_most true = omega arith
 one_at_most false = omega arith
 
--- no more than there are
+-- no more elements present than there are elements
 pub count_few : (marks : Marks) → count_on marks ≤ length marks
 count_few marks =
     let most = sum_by-le (λ trail. one_if (is_on trail)) 1 (values_of marks) (λ k d within. one_at_most (is_on (get_or (values_of marks) k d))) in
@@ -69,7 +69,7 @@ elements_set (e ∷ marks) ordered = at (is_on e.1) (elements_set marks (tail_se
     at true later = set_cons e.0 (elements_of marks) (below_elements e.0 marks (head_below e.0 (keys_of marks) ordered)) later
     at false later = later
 
--- those whose trail says so
+-- the elements present are those whose trail ends with an insertion
 pub has_elements : (marks : Marks) → IsOrdered marks → (q : ℤ) → has (elements_of marks) q ≡ is_on (trail_at marks q)
 has_elements [] ordered q = refl
 has_elements (e ∷ marks) ordered q =
@@ -87,7 +87,7 @@ has_elements (e ∷ marks) ordered q =
     at false is true same later = absent same ∙ sym is
     at false is false other later = later
 
--- an element above those of a set goes behind them
+-- an element above all others is appended
 pub insert_last : (xs : List ℤ) (x : ℤ) (ys : List ℤ) → IsSet (xs ++ x ∷ ys) → insert_key int_cmp xs x ≡ xs ++ x ∷ []
 insert_last [] x ys s = refl
 insert_last (y ∷ xs) x ys s =

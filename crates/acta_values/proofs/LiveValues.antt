@@ -1,4 +1,4 @@
--- Kept values: with one more operation, and with one taken back.
+-- Current values with one more operation, and with one undone.
 use Rattle.std.proofs.Common.{◌≡◌, ℕ, zero, suc, ◌+◌, ◌<◌, ◌≤◌, ◌==◌, Bool, true, false, not, cond, List, [], ◌∷◌, ◌++◌, length, get_or, take, drop, filter_map, fold, Option, Some, None, refl, sym, ap, ◌∙◌, subst, arith}
 use Rattle.std.specs.Prelude.{ℤ, ◌+ℤ◌, ◌-ℤ◌, FitsSigned, is_some, IfSome}
 use Rattle.std.specs.Int.{w64}

@@ -1,4 +1,4 @@
--- What kept values answer, and the first ones.
+-- The answers of current values, and the initial values.
 use Rattle.std.proofs.Common.{◌≡◌, ℕ, zero, suc, ◌==◌, ◌&&◌, Bool, true, false, cond, ◌+◌, ◌<◌, ◌≤◌, List, [], ◌∷◌, ◌++◌, length, get_or, take, Some, None, refl, sym, ap, ◌∙◌, subst, arith}
 use Rattle.std.specs.Prelude.{option_map, slice_get}
 use Rattle.std.specs.List.{AllZip, cons_option}
@@ -18,7 +18,7 @@ use Rattle.acta_values.specs.declared.trail.Numbered.{Numbered}
 use Rattle.acta_values.specs.LiveValues.{ops_of, IsAfter}
 use Rattle.acta_values.specs.KeptValues.{numbered_from, numbered_live, AreAfter}
 
--- operations of other kinds make no difference to a value
+-- operations of other kinds have no effect on a value
 state-equivalent : {A : Type 0} (kind : Kind) (object n : ℕ) (items : List HeldOp) (s : ObjectState A) → IsOf kind s → state_after s (ops_of (numbered_from object n items)) ≡ state_after s (live_ops kind items object)
 state-equivalent kind object n [] s ok = refl
 state-equivalent {A} kind object n (i ∷ items) s ok =
@@ -33,7 +33,7 @@ state-equivalent {A} kind object n (i ∷ items) s ok =
     at true false fits is stays goes = stays
     at false live fits is stays goes = stays
 
--- what is read of the value of an object that is there, is read of what its operations make
+-- the answer for an object that exists is the effect of its operations
 pub read_there : {A R : Type 0} (kinds : List Kind) (items : List HeldOp) (values : List (LiveValue A)) (object : ℕ) (value : LiveValue A) (f : ObjectState A → R) (r : R)
     → AreAfter kinds items values → object < length values → value ≡ get_or values object value
     → ((kind : Kind) (ops : List (Numbered Op)) → IsAfter kind ops value → r ≡ f (state_after (first_state kind) (ops_of ops)))
@@ -45,7 +45,7 @@ read_there {A = A} {R = R} kinds items values object value f r after within is s
     ap (λ (x : R). Some x) (says kind (numbered_live items object) (after.each object kind value there here) ∙ ap f (state-equivalent kind object 1 items (first_state kind) (is_of-first A kind)))
     ∙ ap (option_map (λ k. f (state_after (first_state {A = A} k) (live_ops k items object)))) (sym there)
 
--- where there is no object, there is nothing
+-- a missing object has no answer
 pub read_nothing : {A R : Type 0} (kinds : List Kind) (items : List HeldOp) (values : List (LiveValue A)) (object : ℕ) (f : Kind → R)
     → AreAfter kinds items values → length values ≤ object → None ≡ option_map f (slice_get kinds object)
 read_nothing kinds items values object f after past = ap (option_map f) (sym (slice_get_past kinds object (omega (arith, past, after.long))))

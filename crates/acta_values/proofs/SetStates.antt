@@ -1,4 +1,4 @@
--- What operations make of a set, element by element.
+-- The effect of operations on a set, element by element.
 use Rattle.std.proofs.Common.{◌≡◌, ℕ, Bool, true, false, cond, ◌||◌, List, [], ◌∷◌, fold, filter_map, Some, None, refl, sym, ap, ◌∙◌}
 use Rattle.std.specs.Prelude.{ℤ}
 use Rattle.std.specs.BTreeSet.{insert_key}
@@ -20,7 +20,7 @@ use Rattle.acta_values.specs.LiveSets.{Marks, IsOrdered, trail_at, is_on, elemen
 use Rattle.acta_values.specs.LiveValues.{ops_of, mark_by, marked}
 use Rattle.acta_values.proofs.LiveSets.{elements_set, has_elements}
 
--- what is put in is there
+-- an inserted element is present
 has_inserted : (xs : List ℤ) (x : ℤ) → has (insert_key int_cmp xs x) x ≡ true
 has_inserted [] x = ap (λ b. b || false) (same_eq x)
 has_inserted (y ∷ ys) x = at (int_cmp x y) refl (has_inserted ys x)
@@ -35,7 +35,7 @@ has_inserted (y ∷ ys) x = at (int_cmp x y) refl (has_inserted ys x)
     at Equal e later = ap (λ o. is_eq o || has ys x) e
     at Greater e later = ap (λ b. int_eq x y || b) later ∙ or_true (int_eq x y)
 
--- what is taken out is not
+-- a removed element is absent
 has_removed : (xs : List ℤ) (x : ℤ) → IsSet xs → has (remove_key (int_eq x) xs) x ≡ false
 has_removed [] x s = refl
 has_removed (y ∷ ys) x s = at (int_eq x y) refl (has_removed ys x (tail_set y ys s))
@@ -68,14 +68,14 @@ has_stepped n (Remove y) xs q rest s = at (int_eq y q) refl
     at false e = ap (λ b. last_or b rest) (has_removed_other xs q y (int_eq_equiv.symm q y ∙ e) s)
 has_stepped n _ xs q rest s = refl
 
--- all of them: an element is there where the last that names it put it in
+-- an element is present if the last operation that names it inserted it
 pub state_has : (ops : List (Numbered Op)) (xs : List ℤ) → IsSet xs → (q : ℤ) → has (fold set_step xs (ops_of ops)) q ≡ last_or (has xs q) (filter_map (marked q) ops)
 state_has [] xs s q = refl
 state_has (o ∷ ops) xs s q =
     state_has ops (set_step xs o.item) (step_is_set xs o.item s) q
     ∙ has_stepped o.number o.item xs q (filter_map (marked q) ops) s
 
--- what the trails say is what the operations make
+-- the trails agree with the effect of the operations
 pub elements_after : (marks : Marks) (ops : List (Numbered Op)) → IsOrdered marks → ((x : ℤ) → trail_at marks x ≡ filter_map (marked x) ops) → elements_of marks ≡ fold set_step [] (ops_of ops)
 elements_after marks ops ordered shown =
     same_sets (elements_of marks) (fold set_step [] (ops_of ops)) (elements_set marks ordered) (state_is_set ops [] empty_set)

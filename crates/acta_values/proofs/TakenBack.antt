@@ -1,4 +1,4 @@
--- Kept values with the operations of a transaction taken back.
+-- Current values with the operations of a transaction undone.
 use Rattle.std.proofs.Common.{◌≡◌, ◌≢◌, ℕ, zero, suc, ◌+◌, ◌-◌, ◌<◌, ◌≤◌, ◌==◌, Bool, true, false, not, ◌&&◌, ◌||◌, cond, inl, inr, List, [], ◌∷◌, ◌++◌, length, get_or, set, take, drop, filter, Option, Some, None, refl, sym, ap, ◌∙◌, subst, arith, eq-eqb, ne_eqb}
 use Rattle.std.specs.Prelude.{option_map, slice_get}
 use Rattle.std.specs.List.{AllByRecursion, Contains, cons_option, list_any}
@@ -22,15 +22,15 @@ use Rattle.acta_values.specs.KeptValues.{numbered_on, numbered_from, numbered_li
 use Rattle.acta_values.proofs.Added.{length_set}
 use Rattle.acta_values.proofs.Numbering.{above_from, live_at, live_off, set_same, set_other}
 
--- whether a number is one of these
+-- whether a number is in the list
 abbrev pub is_among : List ℕ → ℕ → Bool
 is_among ns n = list_any (λ m. m == n) ns
 
--- those of other numbers than these
+-- the items whose numbers are not in the list
 abbrev pub without_all : List ℕ → List (Numbered Op) → List (Numbered Op)
 without_all ns ops = filter (λ o. not (is_among ns o.number)) ops
 
--- each value is that of its object after the operations that stay on it, but for these
+-- each value is that of its object after the operations that count on it, except these
 pub record AreAfterBut {A : Type 0} (kinds : List Kind) (items : List HeldOp) (ns : List ℕ) (values : List (LiveValue A)) : Type 0 where
   pub long : length values ≡ length kinds
   pub each : (k : ℕ) (kind : Kind) (value : LiveValue A) → slice_get kinds k ≡ Some kind → slice_get values k ≡ Some value → IsAfter kind (without_all ns (numbered_live items k)) value
@@ -56,7 +56,7 @@ without_next o ns (x ∷ xs) = at (o == x.number) (is_among ns x.number) (eqb_tu
     at false false e later =
         ap (λ b. cond (not b) (x ∷ without o (without_all ns xs)) (without o (without_all ns xs))) e ∙ ap (λ (ys : List (Numbered Op)). x ∷ ys) later
 
--- one that is not among them makes no difference
+-- a number that is not in the list makes no difference
 without_other : (o : ℕ) (ns : List ℕ) (xs : List (Numbered Op)) → AllByRecursion (λ x. x.number ≢ o) xs → without_all (o ∷ ns) xs ≡ without_all ns xs
 without_other o ns [] others = refl
 without_other o ns (x ∷ xs) others =
@@ -92,7 +92,7 @@ aborted_off object i = at (i.ob.0 == object)
     at true = refl
     at false = refl
 
--- once they are aborted, what counts is what is left without them
+-- after the abort, the operations that count are those without t's
 pub ended_without : (object t n : ℕ) (items : List HeldOp) → without_all (held_from t n items) (numbered_from object n items) ≡ numbered_from object n (ended t Aborted items)
 ended_without object t n [] = refl
 ended_without object t n (i ∷ items) = at (is_held t i) (stays_on object i) refl (ended_without object t (n + 1) items)
@@ -145,7 +145,7 @@ held_there t n (i ∷ items) k d e within = at (is_held t i) k refl (λ j. held_
     at true (suc j) is rec lt = later (get_or (held_from t (n + 1) items) j d) (rec j (omega (arith, lt)))
     at false j is rec lt = later (get_or (held_from t (n + 1) items) j d) (rec j lt)
 
--- none of those behind it has its number
+-- no later operation has its number
 pub not_named_later : (t n : ℕ) (items : List HeldOp) (k : ℕ) (d : ℕ) → k < length (held_from t n items) → is_among (drop (suc k) (held_from t n items)) (get_or (held_from t n items) k d) ≡ false
 not_named_later t n [] k d within = absurd (omega arith)
 not_named_later t n (i ∷ items) k d within = at (is_held t i) k (λ j. not_named_later t (n + 1) items j d) within
@@ -176,7 +176,7 @@ contains_kept p (y ∷ xs) x (suc k) within is passes = at (p y) (contains_kept 
     at true there = contains_cons (Some y) (filter p xs) x there
     at false there = there
 
--- one that counts for the object is among those that do
+-- an operation that counts on the object is in the object's list
 contains_live : (object n : ℕ) (items : List HeldOp) (m : ℕ) (e : HeldOp) (op : Op) → n ≤ m → m < n + length items → stays_on object (get_or items (m - n) e) ≡ Some op → Contains (numbered_from object n items) (record { number = m; item = op })
 contains_live object n [] m e op low high live = absurd (omega arith)
 contains_live object n (i ∷ items) m e op low high live =
@@ -191,7 +191,7 @@ contains_live object n (i ∷ items) m e op low high live =
           contains_cons (numbered_on object n i) (numbered_from object (n + 1) items) (record { number = m; item = op }) (contains_live object (n + 1) items m e op (omega (arith, low, other)) (omega (arith, high)) there)
     ]
 
--- where it does not, none of those has its number
+-- if it does not count, no item of that list has its number
 no_number : (object n : ℕ) (items : List HeldOp) (m : ℕ) (e : HeldOp) → n ≤ m → m < n + length items → stays_on object (get_or items (m - n) e) ≡ None → AllByRecursion (λ x. x.number ≢ m) (numbered_from object n items)
 no_number object n [] m e low high off = tt
 no_number object n (i ∷ items) m e low high off =
@@ -227,7 +227,7 @@ pub record IsHeldAt (t : ℕ) (items : List HeldOp) (o : ℕ) (e : HeldOp) : Typ
 held_live : (items : List HeldOp) (t o : ℕ) (e : HeldOp) → IsHeldAt t items o e → is_live (get_or items (o - 1) e) ≡ true
 held_live items t o e at = open_live (get_or items (o - 1) e).fate (and_parts ((get_or items (o - 1) e).holder.0 == t) (is_open (get_or items (o - 1) e).fate) at.held).1
 
--- it is one of those that made the value
+-- it is one of the operations that made the value
 pub held_counts : (items : List HeldOp) (t o : ℕ) (ns : List ℕ) (e : HeldOp) → IsHeldAt t items o e → is_among ns o ≡ false
     → Contains (without_all ns (numbered_live items (get_or items (o - 1) e).ob.0)) (record { number = o; item = (get_or items (o - 1) e).op })
 held_counts items t o ns e at unnamed =
@@ -257,7 +257,7 @@ but_next {A = A} kinds items t ns o e old new at unnamed but undone = record { l
               subst (λ (ops : List (Numbered Op)). IsAfter kind ops value) (sym (without_other o ns (numbered_live items k) none)) before
         ]
 
--- the value of its object may take it back
+-- the value of its object can undo it
 pub counts_at : {A : Type 0} (kinds : List Kind) (items : List HeldOp) (t : ℕ) (ns : List ℕ) (o : ℕ) (e : HeldOp) (values : List (LiveValue A)) (d : LiveValue A)
     → (get_or items (o - 1) e).ob.0 < length values → IsHeldAt t items o e → is_among ns o ≡ false → AreAfterBut kinds items ns values
     → Counts o (get_or items (o - 1) e).op (get_or values (get_or items (o - 1) e).ob.0 d)

@@ -1,4 +1,4 @@
--- Trails: their order, what is taken out of them, and their last item.
+-- Trails: their order, removals, and the last item.
 use Rattle.std.proofs.Common.{◌≡◌, ◌≢◌, ℕ, zero, suc, ◌-◌, ◌<◌, ◌≤◌, ◌==◌, Bool, true, false, not, List, [], ◌∷◌, ◌++◌, length, get_or, refl, sym, ap, ◌∙◌, subst, ⊎_elim, Less, Greater, arith, eq-eqb, ne_eqb}
 use Rattle.std.specs.Prelude.{cond, Ok, Err}
 use Rattle.std.specs.Cmp.{ranks}
@@ -88,11 +88,11 @@ below_is_other a n less same = let lt : a < n = subst (λ o. MatchOrdering o (a 
 above_is_other : (a n : ℕ) → nat_cmp a n ≡ Greater → a ≢ n
 above_is_other a n more same = let lt : n < a = subst (λ o. MatchOrdering o (a < n) (a ≡ n) (n < a)) more (ranks a n) in omega arith
 
--- it answers a place where the number stands
+-- it returns a place if some item has the number
 pub found_at : {T : Type 0} (xs : List (Numbered T)) (n i : ℕ) (d : Numbered T) → IsBinarySearchResult (λ x. nat_cmp x.number n) xs (Ok i) → (get_or xs i d).number ≡ n
 found_at xs n i d at = exact_unsigned _ n (at d)
 
--- or that it stands nowhere
+-- or that no item has it
 pub found_none : {T : Type 0} (xs : List (Numbered T)) (n i : ℕ) → IsAscending xs → IsBinarySearchResult (λ x. nat_cmp x.number n) xs (Err i) → without n xs ≡ xs
 found_none xs n i ascending at =
     let parted = at (compared-rise xs n ascending) in

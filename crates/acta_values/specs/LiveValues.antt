@@ -1,4 +1,4 @@
--- Kept values: which operations they are the value after.
+-- Current values, and the operations that they are the result of.
 use Rattle.std.specs.Prelude.{pos, ⊤, ◌≡◌, ℕ, ◌<◌, ◌≤◌, Bool, true, false, ℤ, List, map, fold, filter_map, length, if◌then◌else◌, Option, Some, None}
 use Rattle.std.specs.List.{AllByRecursion, Contains}
 use Rattle.std.specs.Ordering.{int_eq}
@@ -29,7 +29,7 @@ write_by n _ = None
 abbrev pub written : Numbered Op → Option (Numbered ℤ)
 written o = write_by o.number o.item
 
--- whether operation n puts x in or takes it out
+-- whether operation n inserts or removes x, if it does either
 abbrev pub mark_by : ℤ → ℕ → Op → Option (Numbered Bool)
 mark_by x n (Insert y) = if int_eq y x then Some (record { number = n; item = true }) else None
 mark_by x n (Remove y) = if int_eq y x then Some (record { number = n; item = false }) else None
@@ -38,14 +38,14 @@ mark_by x n _ = None
 abbrev pub marked : ℤ → Numbered Op → Option (Numbered Bool)
 marked x o = mark_by x o.number o.item
 
--- what is kept of an object of this kind is what these operations make
+-- the value represents the result of these operations on an object of this kind
 abbrev pub Shows : {A : Type 0} → Kind → List (Numbered Op) → LiveValue A → Type 0
 Shows (register_kind v) ops (Register first writes) = (first ≡ v) × (writes ≡ filter_map written ops)
 Shows (counter_kind v) ops (Counter sum) = sum ≡ fold counter_step v (ops_of ops)
 Shows elements_kind ops (Elements marks) = (x : ℤ) → trail_at marks x ≡ filter_map (marked x) ops
 Shows _ ops _ = ⊥
 
--- the value of an object of this kind after these operations, by their numbers, ascending
+-- the value of an object of this kind after these operations, by ascending number
 pub record IsAfter {A : Type 0} (kind : Kind) (ops : List (Numbered Op)) (value : LiveValue A) : Type 0 where
   pub ascending : IsAscending ops
   pub few : length ops ≤ MOST_EVENTS
@@ -53,7 +53,7 @@ pub record IsAfter {A : Type 0} (kind : Kind) (ops : List (Numbered Op)) (value 
   pub fits : AllByRecursion (λ o. AmountFits o.item) ops
   pub shows : Shows kind ops value
 
--- an operation of this number may come: all others have lower ones, and there are fewer than may be
+-- an operation with this number may be added: all others have lower numbers, and there is room
 pub record HasRoom {A : Type 0} (number : ℕ) (value : LiveValue A) : Type 0 where
   pub kind : Kind
   pub ops : List (Numbered Op)
@@ -73,7 +73,7 @@ abbrev pub amount : Op → ℤ
 amount (Add n) = n
 amount _ = pos 0
 
--- the value, as the program answers it
+-- the value in the form in which the program returns it
 abbrev pub state_of : {A : Type 0} → LiveValue A → ObjectState A
 state_of (Register first writes) = register_state (last_or first writes)
 state_of (Counter sum) = counter_state sum

@@ -1,4 +1,4 @@
--- What a store of objects and operations is seen as.
+-- The abstract state of a store of objects and operations.
 use Rattle.std.specs.Prelude.{List}
 use Rattle.acta_table.specs.declared.model.Kind.{Kind}
 use Rattle.acta_sets.specs.declared.held_op.HeldOp.{HeldOp}

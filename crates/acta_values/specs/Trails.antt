@@ -1,9 +1,9 @@
--- Items by number: what the operation of that number did.
+-- Lists of items, each with the number of the operation that made it.
 use Rattle.std.specs.Prelude.{ℕ, ◌<◌, ◌==◌, not, ⊤, List, [], ◌∷◌, filter}
 use Rattle.std.specs.List.{AllByRecursion}
 use Rattle.acta_values.specs.declared.trail.Numbered.{Numbered}
 
--- those of other numbers
+-- the items with other numbers
 abbrev pub without : {T : Type 0} → ℕ → List (Numbered T) → List (Numbered T)
 without n xs = filter (λ x. not (x.number == n)) xs
 
@@ -20,7 +20,7 @@ abbrev pub IsAscending : {T : Type 0} → List (Numbered T) → Type 0
 IsAscending [] = ⊤
 IsAscending (x ∷ xs) = AreAbove x.number xs × IsAscending xs
 
--- the last item, or else this one
+-- the last item, or the default if there is none
 abbrev pub last_or : {T : Type 0} → T → List (Numbered T) → T
 last_or d [] = d
 last_or d (x ∷ xs) = last_or x.item xs

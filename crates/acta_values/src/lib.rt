@@ -1,6 +1,5 @@
-//! The objects of a model with the operations on them: who holds each, what became of it, and the value that each
-//! object has. A value is kept from operation to operation, changed by each, and changed back by an abort, with no
-//! replay and no copy.
+//! The objects of a model and the operations on them, with holders, fates and current values. Each operation updates
+//! its object's value, and an abort undoes its operations, without replay or copy.
 //!
 //! A call that allocates returns `Err` if memory runs out.
 #![tactic(auto)]

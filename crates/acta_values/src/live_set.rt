@@ -11,13 +11,13 @@ use acta_table::{Op, Ret};
 use std::alloc::{AllocError, Allocator};
 use std::collections::BTreeMap;
 
-/// A finite set of numbers, with what put each in and what took it out, each of which may be taken
-/// back. Contracts see for each element the trail of it.
+/// A finite set of numbers whose insertions and removals can be undone in any order. Contracts see the trail of each
+/// element.
 #[derive(Drop)]
 pub struct LiveSet<A: Allocator> {
     alloc: A,
     marks: BTreeMap<i32, Trail<bool, A>, A>,
-    // How many elements are present.
+    // The number of elements present.
     present: usize,
 }
 
@@ -33,7 +33,7 @@ impl<A: Allocator> std::marker::Model for LiveSet<A> {
     ghost invariant = { λ set. set.present ≡ count_on set.marks.entries };
 }
 
-// Does nothing: a proof learns from the call that the elements ascend, and that there are not too many.
+// Does nothing: the proof learns from the call that the elements ascend and that their number is bounded.
 fn read_order<A: Allocator>(marks: &BTreeMap<i32, Trail<bool, A>, A>)
     ensures ordered { IsOrdered marks.now.entries }
     ensures small { length marks.now.entries < 2 ^ 63 }
@@ -42,7 +42,7 @@ fn read_order<A: Allocator>(marks: &BTreeMap<i32, Trail<bool, A>, A>)
     let _len = marks.len();
 }
 
-// Puts an item behind the trail of an element, and returns whether the element was present.
+// Appends an item to the trail of an element, and returns whether the element was present.
 fn put_mark<A: Allocator + Copy>(
     alloc: A,
     marks: &mut BTreeMap<i32, Trail<bool, A>, A>,
@@ -71,7 +71,7 @@ fn put_mark<A: Allocator + Copy>(
     }
 }
 
-// Takes an item out of the trail of an element, and returns whether the element was present, and is.
+// Removes an item from the trail of an element, and returns whether the element was present before, and is now.
 fn take_mark<A: Allocator>(
     marks: &mut BTreeMap<i32, Trail<bool, A>, A>,
     number: u32,
@@ -91,7 +91,7 @@ fn take_mark<A: Allocator>(
 }
 
 impl<A: Allocator + Copy> LiveSet<A> {
-    /// The empty set. Takes no memory.
+    /// The empty set. Allocates nothing.
     pub fn new(alloc: A) -> LiveSet<A>
         ensures { result ≡ [] }
     {
@@ -113,7 +113,7 @@ impl<A: Allocator + Copy> LiveSet<A> {
         }
     }
 
-    // How many elements are present.
+    // The number of elements present.
     fn len(&self) -> usize
         ensures len { result ≡ length (elements_of self.now) }
         ensures small { result < 2 ^ 63 }
@@ -122,7 +122,7 @@ impl<A: Allocator + Copy> LiveSet<A> {
         self.present
     }
 
-    /// What the operation would return. Takes no memory.
+    /// The return that the operation would have. Allocates nothing.
     pub fn due(&self, op: &Op) -> Ret
         ensures returned { result ≡ set_return (elements_of self.now) op.now }
         ensures ordered { IsOrdered self.now }
@@ -136,8 +136,8 @@ impl<A: Allocator + Copy> LiveSet<A> {
         }
     }
 
-    /// The operation of this number, higher than those before it, puts the element in or takes it out. On `Err`: it is
-    /// then as it was.
+    /// Does the operation, an insertion or a removal. Its number is higher than all earlier ones. On `Err` the set is
+    /// unchanged.
     pub fn mark(&mut self, number: u32, x: i32, on: bool) -> Result<(), AllocError>
         requires { AreBelow number (trail_at self.old x) }
         ensures marked { OnOk result (IsMarked number x on self.old self.new) }
@@ -149,8 +149,7 @@ impl<A: Allocator + Copy> LiveSet<A> {
         Ok(())
     }
 
-    /// The operation of this number, which put the element in or took it out, is taken back. Takes no
-    /// memory.
+    /// Undoes the insertion or removal with this number. Allocates nothing.
     pub fn unmark(&mut self, number: u32, x: i32)
         ensures { IsUnmarked number x self.old self.new }
     {
@@ -159,7 +158,7 @@ impl<A: Allocator + Copy> LiveSet<A> {
         self.present = self.present + is as usize - was as usize;
     }
 
-    /// The elements that are present.
+    /// The elements present.
     pub fn members(&self) -> Result<Members<A>, AllocError>
         ensures members { IfOk result (λ members. members ≡ elements_of self.now) }
         ensures ordered { IsOrdered self.now }
@@ -174,7 +173,7 @@ impl<A: Allocator + Copy> LiveSet<A> {
         Ok(members)
     }
 
-    /// The same set, in memory of its own.
+    /// Returns a copy of the set.
     pub fn copy(&self) -> Result<LiveSet<A>, AllocError>
         ensures { IfOk result (λ set. set ≡ self.now) }
     {

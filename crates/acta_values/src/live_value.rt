@@ -15,10 +15,10 @@ use acta_objects::ObjectState;
 use acta_table::{Kind, Op, Ret};
 use std::alloc::{AllocError, Allocator};
 
-/// The value of an object after operations, each of which may be taken back.
+/// The value of an object after operations, each of which can be undone.
 #[derive(Drop)]
 pub enum LiveValue<A: Allocator> {
-    /// The first value of a register, and what was written.
+    /// The initial value of a register, and what was written.
     Register(i32, Trail<i32, A>),
     /// The sum of a counter.
     Counter(i64),
@@ -26,7 +26,7 @@ pub enum LiveValue<A: Allocator> {
     Elements(LiveSet<A>),
 }
 
-// Does nothing: a proof learns from the call that the amount fits 32 bits, as its type says.
+// Does nothing: the proof learns from the type that the amount fits 32 bits.
 fn read_amount(op: &Op)
     ensures { AmountFits op.now }
 {
@@ -35,7 +35,7 @@ fn read_amount(op: &Op)
     }
 }
 
-// What an operation returns of a register.
+// The return of an operation on a register.
 fn register_due(value: i32, op: &Op) -> Ret
     ensures { result ≡ register_return value op.now }
 {
@@ -45,7 +45,7 @@ fn register_due(value: i32, op: &Op) -> Ret
     }
 }
 
-// What an operation returns of a counter.
+// The return of an operation on a counter.
 fn counter_due(sum: i64, op: &Op) -> Ret
     ensures { result ≡ counter_return sum op.now }
 {
@@ -55,7 +55,7 @@ fn counter_due(sum: i64, op: &Op) -> Ret
     }
 }
 
-// What the operation writes goes behind the others.
+// Appends what the operation writes.
 fn add_write<A: Allocator>(
     writes: &mut Trail<i32, A>,
     number: u32,
@@ -71,7 +71,7 @@ fn add_write<A: Allocator>(
     Ok(())
 }
 
-// What the operation adds is added.
+// Adds the operation's amount.
 fn add_amount(sum: &mut i64, op: &Op)
     requires { AmountFits op.now → FitsSigned w64 (counter_step sum.old op.now) }
     ensures { sum.new ≡ counter_step sum.old op.now }
@@ -82,7 +82,7 @@ fn add_amount(sum: &mut i64, op: &Op)
     }
 }
 
-// What the operation added is taken off.
+// Subtracts the operation's amount.
 fn take_amount(sum: &mut i64, op: &Op)
     requires { AmountFits op.now → FitsSigned w64 (sum.old -ℤ amount op.now) }
     ensures { sum.new ≡ sum.old -ℤ amount op.now }
@@ -93,7 +93,7 @@ fn take_amount(sum: &mut i64, op: &Op)
     }
 }
 
-// What the operation puts in or takes out is noted.
+// Records the operation's insertion or removal.
 fn add_mark<A: Allocator + Copy>(
     set: &mut LiveSet<A>,
     number: u32,
@@ -110,7 +110,7 @@ fn add_mark<A: Allocator + Copy>(
     }
 }
 
-// What the operation put in or took out is taken back.
+// Undoes the operation's insertion or removal.
 fn take_mark<A: Allocator + Copy>(set: &mut LiveSet<A>, number: u32, op: &Op)
     ensures { (x : ℤ) → trail_at set.new x ≡ (if is_some (mark_by x number op.now) then without number (trail_at set.old x) else trail_at set.old x) }
 {
@@ -120,7 +120,7 @@ fn take_mark<A: Allocator + Copy>(set: &mut LiveSet<A>, number: u32, op: &Op)
 }
 
 impl<A: Allocator + Copy> LiveValue<A> {
-    /// The first value of an object of this kind. Takes no memory.
+    /// The initial value of an object of this kind. Allocates nothing.
     pub fn new(alloc: A, kind: &Kind) -> LiveValue<A>
         ensures { IsAfter kind.now [] result }
     {
@@ -131,7 +131,7 @@ impl<A: Allocator + Copy> LiveValue<A> {
         }
     }
 
-    // What the operation would return, by what is kept.
+    // The return that the operation would have.
     fn returned(&self, op: &Op) -> Ret
         ensures returned { result ≡ returned (state_of self.now) op.now }
         ensures ordered { IsInOrder self.now }
@@ -143,7 +143,7 @@ impl<A: Allocator + Copy> LiveValue<A> {
         }
     }
 
-    // The value, by what is kept.
+    // The current value.
     fn state(&self) -> Result<ObjectState<A>, AllocError>
         ensures state { IfOk result (λ state. state ≡ state_of self.now) }
         ensures ordered { IsInOrder self.now }
@@ -155,7 +155,7 @@ impl<A: Allocator + Copy> LiveValue<A> {
         })
     }
 
-    /// What the operation would return now. Takes no memory.
+    /// The return that the operation would have now. Allocates nothing.
     pub fn due(&self, op: &Op) -> Ret
         ensures { (kind : Kind) (ops : List (Numbered Op)) → IsAfter kind ops self.now
             → result ≡ returned (state_after (first_state {A = A} kind) (ops_of ops)) op.now }
@@ -163,7 +163,7 @@ impl<A: Allocator + Copy> LiveValue<A> {
         self.returned(op)
     }
 
-    /// The value after the operations. `Err` if memory runs out, which only a set takes.
+    /// The current value. Only a set allocates.
     pub fn value(&self) -> Result<ObjectState<A>, AllocError>
         ensures { IfOk result (λ value. (kind : Kind) (ops : List (Numbered Op)) → IsAfter kind ops self.now
             → value ≡ state_after (first_state kind) (ops_of ops)) }
@@ -171,7 +171,7 @@ impl<A: Allocator + Copy> LiveValue<A> {
         self.state()
     }
 
-    /// The operation comes behind the others. On `Err`: the value is then as it was.
+    /// Does the operation after all others. On `Err` the value is unchanged.
     pub fn add(&mut self, number: u32, op: &Op) -> Result<(), AllocError>
         requires { HasRoom number self.old }
         ensures ok { OnOk result ((kind : Kind) (ops : List (Numbered Op)) → IsAfter kind ops self.old
@@ -188,7 +188,7 @@ impl<A: Allocator + Copy> LiveValue<A> {
         Ok(())
     }
 
-    /// The operation, one of those that count, is taken back. Takes no memory.
+    /// Undoes the operation, which must be one of those that were done. Allocates nothing.
     pub fn undo(&mut self, number: u32, op: &Op)
         requires { Counts number op.now self.old }
         ensures { (kind : Kind) (ops : List (Numbered Op)) → IsAfter kind ops self.old
@@ -202,7 +202,7 @@ impl<A: Allocator + Copy> LiveValue<A> {
         }
     }
 
-    /// The same value, in memory of its own.
+    /// Returns a copy of the value.
     pub fn copy(&self) -> Result<LiveValue<A>, AllocError>
         ensures { IfOk result (λ value. value ≡ self.now) }
     {

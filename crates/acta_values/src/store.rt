@@ -12,9 +12,9 @@ use acta_sets::{Handle, OpTable};
 use acta_table::{Fate, Kind, MOST_EVENTS, ObjId, Object, Op, OpNo, OpSet, Ret, TxnId};
 use std::alloc::{AllocError, Allocator};
 
-/// The objects of a model and the operations on them, legal or not: who holds each, what became of it, and the value
-/// that each object has by those that aren't aborted. Contracts see the kinds of the objects, and the operations with
-/// holders and fates. An operation on no object, or not of its object's kind, counts for no value.
+/// The objects of a model and the operations on them, legal or not, with holders and fates. An object's value is that
+/// after its operations that are not aborted. Contracts see the kinds of the objects, and the operations with holders
+/// and fates. An operation on a missing object, or not of its object's kind, affects no value.
 #[derive(Drop)]
 pub struct Store<A: Handle> {
     kinds: Vec<Kind, A>,
@@ -48,7 +48,7 @@ fn kinds_of<A: Allocator + Copy>(
 }
 
 impl<A: Handle> Store<A> {
-    /// The objects with their first values, and no operation.
+    /// The objects with their initial values, and no operations.
     pub fn new(alloc: A, objects: &[Object<A>]) -> Result<Store<A>, AllocError>
         ensures { IfOk result (λ store. store ≡ record { kinds = kinds_of objects.now; items = [] }) }
     {
@@ -61,7 +61,7 @@ impl<A: Handle> Store<A> {
         })
     }
 
-    /// The operations, with who holds them and what became of each.
+    /// The operations, with holders and fates.
     pub fn operations(&self) -> &OpTable<A>
         ensures operations { result.now ≡ self.now.items }
         ensures few { length self.now.items ≤ MOST_EVENTS }
@@ -69,24 +69,23 @@ impl<A: Handle> Store<A> {
         &self.operations
     }
 
-    /// What an operation on the object would return, on its value; nothing where there is no such object. Takes no
-    /// memory.
+    /// Returns what an operation on the object would return now, or `None` if there is no such object. Allocates
+    /// nothing.
     pub fn due(&self, ob: ObjId, op: &Op) -> Option<Ret>
         ensures { result ≡ option_map (λ kind. returned (state_after (first_state {A = A} kind) (live_ops kind self.now.items ob.0)) op.now) (slice_get self.now.kinds ob.0) }
     {
         self.values.due(ob, op)
     }
 
-    /// The value of the object: its first value, with the operations on it that aren't aborted, in order. Nothing where
-    /// there is no such object. `Err` if memory runs out, which only a set takes.
+    /// Returns the object's value: its initial value after the operations on it that are not aborted, in order. `None`
+    /// if there is no such object. Only a set allocates.
     pub fn value(&self, ob: ObjId) -> Result<Option<ObjectState<A>>, AllocError>
         ensures { IfOk result (λ value. value ≡ option_map (λ kind. state_after (first_state {A = A} kind) (live_ops kind self.now.items ob.0)) (slice_get self.now.kinds ob.0)) }
     {
         self.values.value(ob.0 as usize)
     }
 
-    /// Adds an operation in progress, which `t` holds: whoever invokes an operation is responsible for it at first.
-    /// There are fewer than `MOST_EVENTS`. On `Err` none is added.
+    /// Adds an operation in progress, held by `t`. There must be fewer than `MOST_EVENTS`. On `Err` none is added.
     pub fn add(&mut self, t: TxnId, ob: ObjId, op: Op) -> Result<(), AllocError>
         requires { length self.old.items < MOST_EVENTS }
         ensures ok { OnOk result (self.new ≡ record self.old { items = added self.old.items t ob op }) }
@@ -103,7 +102,7 @@ impl<A: Handle> Store<A> {
         }
     }
 
-    /// From now on `u` holds those of the named operations that `from` holds in progress. On `Err` none is handed on.
+    /// Transfers to `u` those of the named operations that `from` holds in progress. On `Err` none is transferred.
     pub fn transfer(&mut self, from: TxnId, ops: &OpSet<A>, u: TxnId) -> Result<(), AllocError>
         ensures ok { OnOk result (self.new ≡ record self.old { items = transferred_of from.0 ops.now u self.old.items }) }
         ensures err { OnErr result (self.new ≡ self.old) }
@@ -111,7 +110,7 @@ impl<A: Handle> Store<A> {
         self.operations.transfer(from, ops, u)
     }
 
-    /// From now on `u` holds the named operations, which `from` holds in progress. On `Err` none is moved.
+    /// Transfers to `u` the named operations, all of which `from` holds in progress. On `Err` none is transferred.
     pub fn move_to(&mut self, from: TxnId, ops: &OpSet<A>, u: TxnId) -> Result<(), AllocError>
         requires { are_held from.0 ops.now self.old.items ≡ true }
         ensures ok { OnOk result (self.new ≡ record self.old { items = moved ops.now u self.old.items }) }
@@ -120,7 +119,7 @@ impl<A: Handle> Store<A> {
         self.operations.move_to(from, ops, u)
     }
 
-    /// From now on `u` holds all that `t` holds in progress. On `Err` nothing is handed on.
+    /// Transfers to `u` all operations that `t` holds in progress. On `Err` none is transferred.
     pub fn transfer_all(&mut self, t: TxnId, u: TxnId) -> Result<(), AllocError>
         ensures ok { OnOk result (self.new ≡ record self.old { items = transferred t.0 u self.old.items }) }
         ensures err { OnErr result (self.new ≡ self.old) }
@@ -128,8 +127,8 @@ impl<A: Handle> Store<A> {
         self.operations.transfer_all(t, u)
     }
 
-    /// All that `t` holds in progress gets this fate, which is committed or aborted. What is aborted is taken back from
-    /// the values. Takes no memory.
+    /// Gives all operations that `t` holds in progress this fate, committed or aborted. Aborted operations are undone
+    /// in the values. Allocates nothing.
     pub fn end_all(&mut self, t: TxnId, fate: Fate)
         requires { is_open fate ≡ false }
         ensures { self.new ≡ record self.old { items = ended t.0 fate self.old.items } }
@@ -141,7 +140,7 @@ impl<A: Handle> Store<A> {
         self.operations.end_all(t, fate);
     }
 
-    /// The same, in memory of its own.
+    /// Returns a copy of the store.
     pub fn copy(&self) -> Result<Store<A>, AllocError>
         ensures { IfOk result (λ store. store ≡ self.now) }
     {

@@ -3,15 +3,14 @@ ghost use Rattle.acta_values.specs.Trails.{without, AreBelow, last_or};
 
 use std::alloc::{AllocError, Allocator};
 
-/// What the operation of this number did.
+/// An item with the number of the operation that made it.
 #[derive(Clone, Copy, PartialEq, Eq, Debug)]
 pub struct Numbered<T> {
     pub number: u32,
     pub item: T,
 }
 
-/// What operations did, one after another, each of which may be taken back. Contracts see the list of
-/// it, by number, ascending.
+/// The items of successive operations, each of which can be removed. Contracts see the list, by ascending number.
 #[derive(Drop)]
 pub struct Trail<T, A: Allocator> {
     items: Vec<Numbered<T>, A>,
@@ -30,7 +29,7 @@ impl<T, A: Allocator> std::marker::Model for Trail<T, A> {
 }
 
 impl<T: Copy, A: Allocator> Trail<T, A> {
-    /// Nothing. Takes no memory.
+    /// The empty trail. Allocates nothing.
     pub fn new(alloc: A) -> Trail<T, A>
         ensures { result ≡ [] }
     {
@@ -39,7 +38,7 @@ impl<T: Copy, A: Allocator> Trail<T, A> {
         }
     }
 
-    /// The last item, or else this one.
+    /// The last item, or the default if there is none.
     pub fn last_or(&self, default: T) -> T
         ensures { result ≡ last_or default self.now }
     {
@@ -49,7 +48,7 @@ impl<T: Copy, A: Allocator> Trail<T, A> {
         }
     }
 
-    /// Puts an item behind the others, whose numbers are lower. On `Err`: it is then as it was.
+    /// Appends an item. All earlier numbers are lower. On `Err` the trail is unchanged.
     pub fn push(&mut self, number: u32, item: T) -> Result<(), AllocError>
         requires { AreBelow number self.old }
         ensures ok { OnOk result (self.new ≡ self.old ++ (record { number = number; item = item }) ∷ []) }
@@ -59,7 +58,7 @@ impl<T: Copy, A: Allocator> Trail<T, A> {
         Ok(())
     }
 
-    /// Takes the item of this number out, if there is one. Takes no memory.
+    /// Removes the item with this number, if there is one. Allocates nothing.
     pub fn remove(&mut self, number: u32)
         ensures { self.new ≡ without number self.old }
     {
@@ -72,7 +71,7 @@ impl<T: Copy, A: Allocator> Trail<T, A> {
 impl<T: Copy, A: Allocator + Copy> Clone for Trail<T, A> {
     ghost is_clone = { λ trail clone. clone ≡ trail };
 
-    /// The same, in memory of its own.
+    /// Returns a copy of the trail.
     fn clone(&self) -> Result<Trail<T, A>, AllocError> {
         Ok(Trail {
             items: Vec::from_slice(*self.items.allocator(), self.items.as_slice())?,

@@ -1,4 +1,4 @@
-//! The kept values of objects, tied to the operations by their numbers.
+//! The current values of objects. Each operation is known by its number, so that it can be undone.
 
 ghost use Rattle.std.specs.Prelude.{◌≡◌, ◌+◌, ◌<◌, ◌≤◌, ◌-◌, [], true, false, List, ℕ, length, slice_get, option_map, map, IfOk, OnOk, OnErr};
 ghost use Rattle.std.specs.List.{HoldsAt};
@@ -35,7 +35,7 @@ impl<A: Allocator> std::marker::Model for Values<A> {
     ghost view = { λ values. values.values.items };
 }
 
-// The operation comes behind the others on its object, which is there.
+// Does the operation on its object, which exists.
 fn add_at<A: Allocator + Copy>(
     values: &mut [LiveValue<A>],
     number: u32,
@@ -52,7 +52,7 @@ fn add_at<A: Allocator + Copy>(
     values[ob.0 as usize].add(number, op)
 }
 
-// The operation is taken back from the value of its object, which is there.
+// Undoes the operation on its object, which exists.
 fn undo_at<A: Allocator + Copy>(values: &mut [LiveValue<A>], number: u32, ob: ObjId, op: &Op)
     requires there { ob.0 < length values.old }
     requires counts { HoldsAt (Counts number op.now) values.old ob.0 }
@@ -61,7 +61,7 @@ fn undo_at<A: Allocator + Copy>(values: &mut [LiveValue<A>], number: u32, ob: Ob
     values[ob.0 as usize].undo(number, op);
 }
 
-// The operation is taken back from the value of its object, if there is such an object.
+// Undoes the operation on its object, if the object exists.
 fn undo<A: Allocator + Copy>(values: &mut [LiveValue<A>], number: u32, ob: ObjId, op: &Op)
     requires { ob.0 < length values.old → HoldsAt (Counts number op.now) values.old ob.0 }
     ensures { IsUndoneAt number ob.0 op.now values.old values.new }
@@ -71,7 +71,7 @@ fn undo<A: Allocator + Copy>(values: &mut [LiveValue<A>], number: u32, ob: ObjId
     }
 }
 
-// The operations that the transaction holds in progress are taken back, the last first.
+// Undoes the operations that the transaction holds in progress, the last first.
 fn take_back<A: Allocator + Copy>(
     values: &mut [LiveValue<A>],
     t: TxnId,
@@ -92,7 +92,7 @@ fn take_back<A: Allocator + Copy>(
 }
 
 impl<A: Allocator + Copy> Values<A> {
-    /// The first values of objects of these kinds.
+    /// The initial values of objects of these kinds.
     pub fn new(alloc: A, kinds: &[Kind]) -> Result<Values<A>, AllocError>
         ensures { IfOk result (λ values. AreAfter kinds.now [] values) }
     {
@@ -103,7 +103,7 @@ impl<A: Allocator + Copy> Values<A> {
         Ok(Values { values })
     }
 
-    /// What an operation on the object would return; nothing where there is no such object. Takes no memory.
+    /// Returns what an operation on the object would return, or `None` if there is no such object. Allocates nothing.
     pub fn due(&self, ob: ObjId, op: &Op) -> Option<Ret>
         ensures { (kinds : List Kind) (items : List HeldOp) → AreAfter kinds items self.now
             → result ≡ option_map (λ kind. returned (state_after (first_state {A = A} kind) (live_ops kind items ob.0)) op.now) (slice_get kinds ob.0) }
@@ -114,7 +114,7 @@ impl<A: Allocator + Copy> Values<A> {
         }
     }
 
-    /// The value of the object with this number, from 0; `None` if there is no such object. Only a set takes memory.
+    /// The value of the object with this number, from 0, or `None` if there is no such object. Only a set allocates.
     pub fn value(&self, object: usize) -> Result<Option<ObjectState<A>>, AllocError>
         ensures { IfOk result (λ value. (kinds : List Kind) (items : List HeldOp) → AreAfter kinds items self.now
             → value ≡ option_map (λ kind. state_after (first_state {A = A} kind) (live_ops kind items object)) (slice_get kinds object)) }
@@ -125,7 +125,7 @@ impl<A: Allocator + Copy> Values<A> {
         }
     }
 
-    /// One more operation, of the next number, is in progress. On `Err`: the values are then as they were.
+    /// Adds one more operation, with the next number. On `Err` the values are unchanged.
     pub fn add(&mut self, number: u32, ob: ObjId, op: &Op) -> Result<(), AllocError>
         requires { Takes number self.old }
         ensures ok { OnOk result ((kinds : List Kind) (items : List HeldOp) → AreAfter kinds items self.old
@@ -140,7 +140,7 @@ impl<A: Allocator + Copy> Values<A> {
         }
     }
 
-    /// All that the transaction holds in progress is aborted: these operations, by number, ascending. Takes no memory.
+    /// Undoes all operations that the transaction holds in progress, given by number, ascending. Allocates nothing.
     pub fn abort(&mut self, t: TxnId, items: &[HeldOp], held: &[u32])
         requires values { AreValues items.now self.old }
         requires held { held.now ≡ numbers_where (is_held t.0) items.now }
@@ -149,7 +149,7 @@ impl<A: Allocator + Copy> Values<A> {
         take_back(&mut self.values, t, items, held);
     }
 
-    /// The operation that came last is forgotten again. Takes no memory.
+    /// Undoes the last operation. Allocates nothing.
     pub fn forget(&mut self, number: u32, ob: ObjId, op: &Op)
         requires { CameLast number ob op.now self.old }
         ensures { (kinds : List Kind) (items : List HeldOp) (t : TxnId) → AreAfter kinds (added items t ob op.now) self.old
@@ -158,7 +158,7 @@ impl<A: Allocator + Copy> Values<A> {
         undo(&mut self.values, number, ob, op);
     }
 
-    /// The same values, in memory of their own.
+    /// Returns a copy of the values.
     pub fn copy(&self) -> Result<Values<A>, AllocError>
         ensures { IfOk result (λ values. values ≡ self.now) }
     {

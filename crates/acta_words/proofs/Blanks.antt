@@ -1,4 +1,4 @@
--- A line has a word where a byte of it is no blank.
+-- A line has a word if some byte of it is not blank.
 use Rattle.std.proofs.Common.{◌≡◌, ℕ, ◌==◌, Bool, true, false, cond, not, ◌||◌, List, [], ◌∷◌, length, filter, refl, ap, ◌∙◌, arith}
 use Rattle.std.proofs.lemmas.Bool.Decides.{nat_tests}
 use Rattle.std.specs.List.{list_any, slice_split, onto_first}
@@ -15,7 +15,7 @@ has_some_word parts = not (length (filter is_some_word parts) == 0)
 some_length : {X : Type 0} (x : X) (xs : List X) → not (length (x ∷ xs) == 0) ≡ true
 some_length x xs = grind (arith, nat_tests)
 
--- with one byte in front of the first part, that part is not empty
+-- a byte put at the front makes the first part non-empty
 with_first : (word : List ℕ) (parts : List (List ℕ)) → is_some_word word ≡ true → has_some_word (word ∷ parts) ≡ true
 with_first word parts some =
     let rest = filter is_some_word parts in

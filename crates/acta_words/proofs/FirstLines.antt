@@ -1,4 +1,4 @@
--- The first line of a text, and the lines behind it.
+-- The first line of a text, and the lines after it.
 use Rattle.std.proofs.Common.{◌≡◌, ◌≤◌, ℕ, suc, ◌+◌, length, Bool, true, false, cond, not, List, [], ◌∷◌, take, drop, refl, sym, ap, ◌∙◌, arith}
 use Rattle.std.specs.List.{position_or_len, onto_first}
 use Rattle.acta_words.specs.Text.{is_line_feed, lines_left, lines_of}
@@ -21,12 +21,12 @@ first_left b (c ∷ cs) =
     more (is_line_feed b) b (c ∷ cs) n
     (ap (onto_first b) (first_left c cs) ∙ (λ i. take (one i) (b ∷ c ∷ cs) ∷ lines_left (drop (two i) (b ∷ c ∷ cs))))
 
--- the lines of a text: the first, and those left behind its line feed
+-- the lines of a text: the first, and those left after its line feed
 pub first_line : (text : List ℕ) → lines_of text ≡ take (position_or_len is_line_feed text) text ∷ lines_left (drop (position_or_len is_line_feed text + 1) text)
 first_line [] = refl
 first_line (b ∷ bs) = first_left b bs
 
--- the same, with where the first line ends, what stands behind it, and the lines of that under names
+-- the same, with names for the end of the first line, the rest of the text, and the lines of the rest
 pub goes_on : (text rest : List ℕ) (n : ℕ) (left : List (List ℕ)) → n ≡ position_or_len is_line_feed text → rest ≡ drop (n + 1) text → left ≡ lines_left rest → lines_of text ≡ take n text ∷ left
 goes_on text rest n left at behind lines =
     first_line text

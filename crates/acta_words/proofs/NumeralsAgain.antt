@@ -1,4 +1,4 @@
--- A number that is written is read again.
+-- Reading back a written number gives the same number.
 use Rattle.std.proofs.Common.{◌≡◌, ℕ, suc, ◌-◌, ◌^◌, ◌<◌, ◌≤◌, Bool, true, false, ◌&&◌, cond, ◌==◌, nat_le, List, [], ◌∷◌, length, decimal, drop, Some, None, option_map, refl, ap, ◌∙◌, arith, pos, negsuc, neg_ℤ}
 use Rattle.std.specs.Char.{is_ascii_digit}
 use Rattle.std.specs.Fmt.{signed_decimal}

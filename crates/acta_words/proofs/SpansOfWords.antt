@@ -41,7 +41,7 @@ skip_blanks : (bs : List ℕ) → words_between bs ≡ words_between (drop (blan
 skip_blanks [] = refl
 skip_blanks (b ∷ bs) = skip b bs (blanks bs) (skip_blanks bs) (is_blank b) refl
 
--- the part at the front, and the words behind it
+-- the part at the front, and the words after it
 abbrev IsFirst : List ℕ → ℕ → List (List ℕ) → Type 0
 IsFirst bs n tail = (parts bs ≡ take n bs ∷ tail) × (filter is_some_word tail ≡ words_between (drop n bs))
 
@@ -60,7 +60,7 @@ first_part (b ∷ bs) =
 some_word : (word : List ℕ) (n : ℕ) → length word ≡ n → 0 < n → is_some_word word ≡ true
 some_word word n is some = grind (arith, nat_tests)
 
--- a word at the front, and the words behind it
+-- a word at the front, and the words after it
 pub front_word : (bs : List ℕ) → 0 < word_end bs → words_between bs ≡ take (word_end bs) bs ∷ words_between (drop (word_end bs) bs)
 front_word bs some =
     let first = first_part bs in
@@ -69,7 +69,7 @@ front_word bs some =
     ∙ ap (λ t. cond t (word ∷ filter is_some_word first.0) (filter is_some_word first.0)) (some_word word (word_end bs) (length-prefix_len (λ b. not (is_blank b)) bs) some)
     ∙ ap (λ words. word ∷ words) first.1.1
 
--- where no word is at the front behind the blanks, there is none
+-- if no word follows the leading blanks, there is none
 none : (b : ℕ) (bs : List ℕ) → (word_end (drop (blanks bs) bs) ≡ 0 → words_between bs ≡ []) → (blank : Bool) → is_blank b ≡ blank → word_end (drop (cond (not (not blank)) (1 + blanks bs) 0) (b ∷ bs)) ≡ 0 → words_between (b ∷ bs) ≡ []
 none b bs h true is ends = words_more b bs true is ∙ h (ap (λ k. word_end (drop k (b ∷ bs))) (one (blanks bs)) ∙ ends)
 none b bs h false is ends =
@@ -80,7 +80,7 @@ pub no_word : (bs : List ℕ) → word_end (drop (blanks bs) bs) ≡ 0 → words
 no_word [] ends = refl
 no_word (b ∷ bs) ends = none b bs (no_word bs) (is_blank b) refl ends
 
--- no word goes on where a word ends
+-- the end of a word is a cut: no word crosses it
 stop : (b : ℕ) (bs : List ℕ) → word_end (drop (word_end bs) bs) ≡ 0 → (blank : Bool) → is_blank b ≡ blank → word_end (drop (cond (not blank) (1 + word_end bs) 0) (b ∷ bs)) ≡ 0
 stop b bs h true is = ap (λ t. cond (not t) (1 + word_end bs) 0) is
 stop b bs h false is = sym (ap (λ k. word_end (drop k (b ∷ bs))) (one (word_end bs))) ∙ h
@@ -109,7 +109,7 @@ blank_first y n false is ends =
     let long : 1 + n ≡ 0 = sym (ap (λ t. cond (not t) (1 + n) 0) is) ∙ ends in
     absurd (omega arith)
 
--- bytes may be cut where no word goes on
+-- bytes may be cut where no word crosses
 pub cut : (xs ys : List ℕ) → word_end ys ≡ 0 → words_between (xs ++ ys) ≡ words_between xs ++ words_between ys
 cut xs [] ends = ap words_between (append-nil xs) ∙ sym (append-nil (words_between xs))
 cut xs (y ∷ ys) ends =
@@ -139,7 +139,7 @@ with_blanks xs bs =
 abbrev span : ℕ → ℕ → Span
 span from to = record { from = from; to = to }
 
--- the next span: from behind the blanks up to where the word there ends
+-- the next span: from the first non-blank byte to the end of the word there
 pub next : (bytes : List ℕ) (at k n : ℕ) → k ≡ blanks (drop at bytes) → n ≡ word_end (drop (at + k) bytes) → 0 < n → at + k + n ≤ length bytes → IsNextSpan bytes at (span (at + k) (at + k + n))
 next bytes at k n blank word some within =
     let rest = drop (at + k) bytes in
@@ -162,7 +162,7 @@ next bytes at k n blank word some within =
       within = omega arith;
     }
 
--- so far: the words from here on are those left after the first i
+-- loop invariant: the words from here on are those left after the first i
 pub record IsAt (bytes : List ℕ) (i at : ℕ) : Type 0 where
   pub within : at ≤ length bytes
   pub count : i ≤ length (words_between bytes)
@@ -230,7 +230,7 @@ prefix_within p bs to within =
     let few = prefix_len-le-length (λ b. not (p b)) bs in
     (omega arith, omega arith)
 
--- the next span behind the first words is the span of the next word
+-- the next span after the first words is the span of the next word
 pub is_span : (line : List ℕ) (place at : ℕ) (span : Span) → IsAt (before_first is_mark line) place at → IsNextSpan (before_first is_mark line) at span → IsSpanOf line place span
 is_span line place at span so_far next =
     let bytes = before_first is_mark line in

@@ -1,4 +1,4 @@
--- What is written is read again: the lines of a text made of lines, and the words of a line made of words.
+-- Reading back what was written: joining lines and splitting the text gives the same lines, and likewise for words.
 use Rattle.std.proofs.Common.{◌≡◌, ℕ, suc, ◌+◌, ◌==◌, false, cond, not, List, [], ◌∷◌, ◌++◌, length, take, filter, refl, sym, ap, ◌∙◌, arith}
 use Rattle.std.specs.List.{AllByRecursion, slice_split, onto_first, before_first, position_or_len}
 use Rattle.std.proofs.lemmas.List.{append_assoc, append-nil}
@@ -25,11 +25,11 @@ some_left : (line rest : List ℕ) → lines_of ((line ++ 10 ∷ []) ++ rest) �
 some_left [] rest = refl
 some_left (b ∷ bs) rest = refl
 
--- the lines of a text that was made of some lines are these
+-- splitting a text joined from lines gives these lines
 pub lines_again : (line : List ℕ) (lines : List (List ℕ)) → AllByRecursion IsOneLine (line ∷ lines) → lines_of (text_of (line ∷ lines)) ≡ line ∷ lines
 lines_again line lines ones = some_left line (text_of lines) ∙ left_again (line ∷ lines) ones
 
--- a byte that is no blank, and begins no comment
+-- a byte that is not blank and does not begin a comment
 pub record IsPlain (b : ℕ) : Type 0 where
   pub inside : is_blank b ≡ false
   pub counts : is_mark b ≡ false
@@ -49,7 +49,7 @@ unmarked : (bs rest : List ℕ) → AllByRecursion IsPlain bs → before_first i
 unmarked [] rest all = refl
 unmarked (b ∷ bs) rest all = goes_on b (bs ++ rest) all.0.counts ∙ ap (λ t. b ∷ t) (unmarked bs rest all.1)
 
--- nothing of the line of some words is a comment
+-- a line joined from words has no comment
 uncommented : (words : List (List ℕ)) → AllByRecursion IsWord words → before_first is_mark (line_of words) ≡ line_of words
 uncommented [] all = refl
 uncommented (word ∷ []) all =
@@ -81,7 +81,7 @@ all_stay (word ∷ words) all =
     ap (λ b. cond (not b) (word ∷ filter (λ w. not (length w == 0)) words) (filter (λ w. not (length w == 0)) words)) all.0.some
     ∙ ap (λ ws. word ∷ ws) (all_stay words all.1)
 
--- the words of a line that was made of some words are these
+-- splitting a line joined from words gives these words
 pub words_again : (words : List (List ℕ)) → AllByRecursion IsWord words → words_of (line_of words) ≡ words
 words_again [] all = refl
 words_again (word ∷ words) all =

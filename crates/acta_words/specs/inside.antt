@@ -1,3 +1,3 @@
--- Words of the code's own contracts, and what is proved of words: nothing here is needed to read a promise.
+-- Definitions used only by internal contracts and proofs. The public contracts can be read without them.
 pub mod LinesToCome
 pub mod NextSpans

@@ -1,15 +1,17 @@
-//! A text as lines, a line as words, and words as decimal numbers: read, and written. All of it is bytes. What the
-//! lines say is for others: this crate knows no model.
+//! Splits a text into lines, a line into words, and reads and writes decimal numbers. Everything is bytes. This crate
+//! knows nothing of models.
 //!
 //! A call that allocates returns `Err` if memory runs out.
 #![tactic(auto)]
 
+mod few;
 mod lines;
 mod numerals;
 mod spans;
 mod words;
 mod writing;
 
+pub use few::{FewWords, few_words};
 pub use lines::Lines;
 pub use numerals::{read_i32, read_i64, read_u16, read_u32};
 pub use spans::{Span, word_span};

@@ -1,4 +1,4 @@
-//! A text as lines. They end at line feeds.
+//! Splits a text into lines, which end at line feeds.
 
 ghost use Rattle.std.specs.Prelude.{◌≡◌, ◌≤◌, ◌+◌, ◌==◌, [], length, drop};
 ghost use Rattle.std.specs.Iterator.{YieldsFirstRef, item_count};
@@ -7,15 +7,15 @@ ghost use Rattle.std.specs.Option.{option_map_or};
 ghost use Rattle.acta_words.specs.Text.{is_line_feed, lines_left, lines_of};
 ghost use Rattle.acta_words.specs.inside.LinesToCome.{lines_to_come};
 
-/// The lines of a text, without their line feeds. What stands behind the last line feed is a line only where it
-/// isn't empty, and a text without any byte is one empty line.
+/// The lines of a text, without their line feeds. Bytes after the last line feed form a line only if there are any. The
+/// empty text is one empty line.
 #[derive(Drop)]
 pub struct Lines<'a> {
     rest: Option<&'a [u8]>,
 }
 
 impl<'a> Lines<'a> {
-    /// The lines of the text, none taken yet.
+    /// Returns an iterator over the lines of the text.
     pub fn of(text: &'a [u8]) -> Lines<'a>
         ensures lines { lines_to_come result ≡ lines_of text.now }
         ensures count { length (lines_to_come result) ≤ length text.now + 1 }
@@ -23,7 +23,7 @@ impl<'a> Lines<'a> {
         Lines { rest: Some(text) }
     }
 
-    /// Whether no line is left.
+    /// Returns whether no line is left.
     pub fn is_over(&self) -> bool
         ensures { result ≡ (length (lines_to_come self.now) == 0) }
     {
@@ -31,7 +31,7 @@ impl<'a> Lines<'a> {
     }
 }
 
-// Where the first line of the text ends.
+// The length of the first line.
 fn line_end(text: &[u8]) -> usize
     ensures at { result ≡ position_or_len is_line_feed text.now }
     ensures within { result ≤ length text.now }
@@ -44,7 +44,7 @@ fn line_end(text: &[u8]) -> usize
     text.len()
 }
 
-// What stands behind the line that ends there.
+// The text after the line feed at `end`; empty if there is none.
 fn behind(text: &[u8], end: usize) -> &[u8]
     requires { end ≤ length text.now }
     ensures { result.now ≡ drop (end + 1) text.now }
@@ -56,7 +56,7 @@ fn behind(text: &[u8], end: usize) -> &[u8]
     }
 }
 
-// The text, where a byte is left of it.
+// The text, or `None` if it is empty.
 fn if_left(text: &[u8]) -> Option<&[u8]>
     ensures { option_map_or (λ left. lines_of left.now) result [] ≡ lines_left text.now }
 {

@@ -1,4 +1,4 @@
-//! Words of decimal digits, as numbers with bounds. Leading zeros are allowed, however many, and a plus never is.
+//! Parses decimal numbers within bounds. Leading zeros are allowed; a plus sign is not.
 
 ghost use Rattle.std.specs.Prelude.{◌≡◌, ◌≤◌, ◌<◌, ◌-◌, ◌^◌, min, true, IfSome, pos, neg_ℤ};
 ghost use Rattle.std.specs.List.{list_all};
@@ -12,14 +12,13 @@ fn are_digits(word: &[u8]) -> bool
     word.iter().all(|byte| byte.is_ascii_digit())
 }
 
-// Whether the word is digits, at least one.
 fn is_numeral(word: &[u8]) -> bool
     ensures { result ≡ is_numeral word.now }
 {
     !word.is_empty() && are_digits(word)
 }
 
-// The number that digits write, or the greatest of 64 bits where it is greater.
+// The value of the digits, or `u64::MAX` if it is greater.
 fn magnitude(digits: &[u8]) -> u64
     requires { list_all is_ascii_digit digits.now ≡ true }
     ensures { result ≡ min (digits_value 10 digits.now) (2 ^ 64 - 1) }
@@ -32,7 +31,7 @@ fn magnitude(digits: &[u8]) -> u64
     value
 }
 
-// The number that a word of digits writes, if it is at most this.
+// Parses a number from 0 to `most`.
 fn natural(word: &[u8], most: u64) -> Option<u64>
     requires { most < 2 ^ 64 - 1 }
     ensures same { result ≡ read_natural most word.now }
@@ -45,7 +44,7 @@ fn natural(word: &[u8], most: u64) -> Option<u64>
     if value <= most { Some(value) } else { None }
 }
 
-// A number that may be as far below 0 as this, as a number of 64 bits.
+// Minus the value, which may be 2^63.
 fn below_zero(value: u64) -> i64
     requires { value ≤ 2 ^ 63 }
     ensures { result ≡ neg_ℤ (pos value) }
@@ -56,8 +55,7 @@ fn below_zero(value: u64) -> i64
     -((value - 1) as i64) - 1
 }
 
-// The number that a word of digits writes, with a minus before them or not, if it is at least -bound and below
-// bound.
+// Parses a number from -bound to bound - 1, with an optional minus.
 fn integer(word: &[u8], bound: u64) -> Option<i64>
     requires some { 0 < bound }
     requires fits { bound ≤ 2 ^ 63 }
@@ -69,28 +67,28 @@ fn integer(word: &[u8], bound: u64) -> Option<i64>
     Some(natural(word, bound - 1)? as i64)
 }
 
-/// The number of 16 bits that a word of digits writes.
+/// Parses an unsigned 16-bit number.
 pub fn read_u16(word: &[u8]) -> Option<u16>
     ensures { result ≡ read_natural 0xffff word.now }
 {
     Some(natural(word, 0xffff)? as u16)
 }
 
-/// The number of 32 bits that a word of digits writes.
+/// Parses an unsigned 32-bit number.
 pub fn read_u32(word: &[u8]) -> Option<u32>
     ensures { result ≡ read_natural 0xffff_ffff word.now }
 {
     Some(natural(word, 0xffff_ffff)? as u32)
 }
 
-/// The signed number of 32 bits that a word of digits writes, with a minus before them or not.
+/// Parses a signed 32-bit number, with an optional minus.
 pub fn read_i32(word: &[u8]) -> Option<i32>
     ensures { result ≡ read_integer 0x8000_0000 word.now }
 {
     Some(integer(word, 0x8000_0000)? as i32)
 }
 
-/// The signed number of 64 bits that a word of digits writes, with a minus before them or not.
+/// Parses a signed 64-bit number, with an optional minus.
 pub fn read_i64(word: &[u8]) -> Option<i64>
     ensures { result ≡ read_integer 0x8000_0000_0000_0000 word.now }
 {

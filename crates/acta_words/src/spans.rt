@@ -1,4 +1,4 @@
-//! Where the words of a line are.
+//! Locates the words of a line.
 
 ghost use Rattle.std.specs.Prelude.{◌≡◌, ◌≤◌, not, length, drop, [], IfSome, IfNone};
 ghost use Rattle.std.specs.List.{position_or_len};
@@ -8,7 +8,7 @@ ghost use Rattle.acta_words.specs.inside.NextSpans.{words_between, IsNextSpan};
 
 use crate::words::without_comment;
 
-/// The bytes of a line from `from` up to `to`, counted from 0. The byte at `to` is no longer part of the span.
+/// The bytes of a line from `from` up to, but not including, `to`, counted from 0.
 #[derive(Clone, Copy, PartialEq, Eq, Debug)]
 pub struct Span {
     /// The first byte.
@@ -23,7 +23,7 @@ fn is_blank(byte: u8) -> bool
     byte == b' ' || byte == b'\t'
 }
 
-// How many blanks the bytes begin with.
+// The number of leading blanks.
 fn count_blanks(bytes: &[u8]) -> usize
     ensures count { result ≡ position_or_len (λ b. not (is_blank b)) bytes.now }
     ensures within { result ≤ length bytes.now }
@@ -36,7 +36,7 @@ fn count_blanks(bytes: &[u8]) -> usize
     bytes.len()
 }
 
-// How long the word is that the bytes begin with.
+// The length of the leading word.
 fn word_length(bytes: &[u8]) -> usize
     ensures length { result ≡ position_or_len is_blank bytes.now }
     ensures within { result ≤ length bytes.now }
@@ -56,8 +56,8 @@ fn bytes_from(bytes: &[u8], from: usize) -> &[u8]
     &bytes[from..]
 }
 
-// The span of the first word from this byte on. The bytes have no comment.
-fn next_span(bytes: &[u8], at: usize) -> Option<Span>
+// The span of the first word at or after `at`. The bytes have no comment.
+pub(crate) fn next_span(bytes: &[u8], at: usize) -> Option<Span>
     requires { at ≤ length bytes.now }
     ensures none { IfNone result (words_between (drop at bytes.now) ≡ []) }
     ensures some { IfSome result (IsNextSpan bytes.now at) }
@@ -73,8 +73,8 @@ fn next_span(bytes: &[u8], at: usize) -> Option<Span>
     })
 }
 
-/// The span of the word of this number in the line, counted from 0, or `None` where the line has no more than so many
-/// words. Equal words of one line have different spans. Takes no memory.
+/// Returns the span of the word with this number, counted from 0, or `None` if the line has too few words. Allocates
+/// nothing.
 pub fn word_span(line: &[u8], place: usize) -> Option<Span>
     ensures none { IfNone result (length (words_of line.now) ≤ place) }
     ensures some { IfSome result (IsSpanOf line.now place) }

@@ -1,5 +1,5 @@
-//! A line as words. They stand apart by spaces or tabs, before the first `#`, which begins a comment, inside a word
-//! too. Every other byte belongs to its word.
+//! Splits a line into words, which are separated by spaces or tabs. The first `#`, even inside a word, begins a
+//! comment. Every other byte belongs to its word.
 
 ghost use Rattle.std.specs.Prelude.{◌≡◌, ◌==◌, not, length, map, IfOk};
 ghost use Rattle.std.specs.List.{before_first, list_any, position_or_len};
@@ -7,7 +7,7 @@ ghost use Rattle.acta_words.specs.Text.{is_blank, is_mark, words_of};
 
 use std::alloc::{AllocError, Allocator};
 
-// Where the comment of a line begins, or the line ends.
+// The length of the line without its comment.
 fn comment_at(line: &[u8]) -> usize
     ensures { result ≡ position_or_len is_mark line.now }
 {
@@ -19,7 +19,7 @@ fn comment_at(line: &[u8]) -> usize
     line.len()
 }
 
-/// The line up to its comment.
+/// Returns the line without its comment.
 pub(crate) fn without_comment(line: &[u8]) -> &[u8]
     ensures { result.now ≡ before_first is_mark line.now }
 {
@@ -27,7 +27,7 @@ pub(crate) fn without_comment(line: &[u8]) -> &[u8]
     if at < line.len() { &line[..at] } else { line }
 }
 
-/// The words of a line.
+/// Returns the words of a line.
 pub fn words_of<'a, A: Allocator + Copy>(
     alloc: A,
     line: &'a [u8],
@@ -40,14 +40,13 @@ pub fn words_of<'a, A: Allocator + Copy>(
         .collect(alloc)
 }
 
-// Whether a byte is no blank.
 fn has_inside(bytes: &[u8]) -> bool
     ensures { result ≡ list_any (λ b. not (is_blank b)) bytes.now }
 {
     bytes.iter().any(|byte| *byte != b' ' && *byte != b'\t')
 }
 
-/// Whether the line has a word. Takes no memory.
+/// Returns whether the line has a word. Allocates nothing.
 pub fn has_words(line: &[u8]) -> bool
     ensures { result ≡ not (length (words_of line.now) == 0) }
 {

@@ -1,4 +1,4 @@
-//! A line, word by word, and a text, line by line.
+//! Writes a line word by word, and a text line by line.
 
 ghost use Rattle.std.specs.Prelude.{◌≡◌, ◌++◌, ◌∷◌, [], MatchResult, decimal};
 ghost use Rattle.std.specs.Fmt.{signed_decimal};
@@ -8,8 +8,7 @@ ghost use Rattle.acta_words.specs.Text.{text_of};
 use itoa::Buffer;
 use std::alloc::{AllocError, Allocator};
 
-/// Writes a space and the word behind what the line has. On `Err` what the line had is still there, and part of this
-/// may have been written behind it.
+/// Appends a space and the word to the line. On `Err` part of this may have been appended.
 pub fn push_word<A: Allocator>(line: &mut Vec<u8, A>, word: &[u8]) -> Result<(), AllocError>
     ensures { MatchResult result (λ _. line.new.items ≡ line.old.items ++ 32 ∷ word.now) (λ _. StartsWith line.new.items line.old.items) }
 {
@@ -17,8 +16,7 @@ pub fn push_word<A: Allocator>(line: &mut Vec<u8, A>, word: &[u8]) -> Result<(),
     line.extend_from_slice(word)
 }
 
-/// Writes a space and the digits of the number behind what the line has. On `Err` what the line had is still there, and
-/// part of this may have been written behind it.
+/// Appends a space and the digits of the number to the line. On `Err` part of this may have been appended.
 pub fn push_natural<A: Allocator>(line: &mut Vec<u8, A>, number: u64) -> Result<(), AllocError>
     ensures { MatchResult result (λ _. line.new.items ≡ line.old.items ++ 32 ∷ decimal number) (λ _. StartsWith line.new.items line.old.items) }
 {
@@ -26,8 +24,8 @@ pub fn push_natural<A: Allocator>(line: &mut Vec<u8, A>, number: u64) -> Result<
     push_word(line, digits.format(number).as_bytes())
 }
 
-/// Writes a space, a minus where the number is below 0, and its digits behind what the line has. On `Err` what the line
-/// had is still there, and part of this may have been written behind it.
+/// Appends a space, a minus if the number is negative, and its digits to the line. On `Err` part of this may have been
+/// appended.
 pub fn push_integer<A: Allocator>(line: &mut Vec<u8, A>, value: i64) -> Result<(), AllocError>
     ensures { MatchResult result (λ _. line.new.items ≡ line.old.items ++ 32 ∷ signed_decimal value) (λ _. StartsWith line.new.items line.old.items) }
 {
@@ -35,8 +33,7 @@ pub fn push_integer<A: Allocator>(line: &mut Vec<u8, A>, value: i64) -> Result<(
     push_word(line, digits.format(value).as_bytes())
 }
 
-/// Writes the line and a line feed behind what the text has. On `Err` what the text had is still there, and part of
-/// this may have been written behind it.
+/// Appends the line and a line feed to the text. On `Err` part of this may have been appended.
 pub fn push_line<A: Allocator>(text: &mut Vec<u8, A>, line: &[u8]) -> Result<(), AllocError>
     ensures { MatchResult result (λ _. text.new.items ≡ text.old.items ++ text_of (line.now ∷ [])) (λ _. StartsWith text.new.items text.old.items) }
 {

@@ -1,52 +1,52 @@
-//! Each allocation of a call refused in turn.
+//! Refuses each allocation of a call in turn.
 
 use crate::Refusing;
 use std::alloc::Allocator;
 
-// More allocations than the call of any case makes.
+// An upper bound on the allocations of any case's call.
 const MOST: u64 = 10_000;
 
-/// A call, the state that it starts from, and the readers of that state.
+/// A call, its initial state, and the readers of that state.
 pub trait Case {
-    /// The state that the call starts from: `()` for a call that needs none.
+    /// The initial state: `()` for a call that needs none.
     type State: Drop;
 
-    /// What the call answers.
+    /// The result of the call.
     type Answer: Drop;
 
-    /// Makes the state that the call starts from. Nothing is refused meanwhile.
+    /// Makes the initial state. Nothing is refused meanwhile.
     fn start(&self) -> Self::State;
 
-    /// Makes the call. Returns `None` where memory ran out.
+    /// Makes the call. Returns `None` if memory ran out.
     fn call(&self, state: &mut Self::State) -> Option<Self::Answer>;
 
-    /// Returns the answer as text, after the call has left this state. Nothing is refused meanwhile.
+    /// Returns the answer as text; `state` is the state after the call. Nothing is refused meanwhile.
     fn describe(&self, answer: &Self::Answer, state: &Self::State) -> String;
 
-    /// Returns what the readers of the state answer, as text. Nothing is refused meanwhile.
+    /// Returns the answers of the readers of the state, as text. Nothing is refused meanwhile.
     fn read(&self, state: &Self::State) -> String;
 }
 
 /// What is wrong with a call, with the number of the allocation that was refused, from 1.
 #[derive(Clone, Copy, PartialEq, Eq, Debug)]
 pub enum Wrong {
-    /// Memory ran out, and afterwards a reader answers otherwise than before the call.
+    /// Memory ran out, and afterwards a reader's answer differs from the one before the call.
     Changed(u64),
-    /// The answer is another than the expected one, or memory ran out although nothing was refused.
+    /// The answer differs from the expected one, or memory ran out although nothing was refused.
     Answer(u64),
     /// The call makes more than 10,000 allocations.
     Endless,
 }
 
-// What came of a call whose nth allocation was refused: the answer, if there is one, whether that allocation came, and
-// whether the readers answer as before where there is no answer.
+// The result of a call whose nth allocation was to be refused: the answer, if there is one, whether the call made that
+// allocation, and, without an answer, whether the readers answer as before.
 struct Tried<X> {
     answer: Option<X>,
     was_refused: bool,
     is_same: bool,
 }
 
-// Makes the call on the state, its nth allocation refused.
+// Makes the call on the state, with its nth allocation refused.
 fn try_call<B: Allocator, C: Case>(
     heap: &Refusing<B>,
     case: &C,
@@ -74,7 +74,8 @@ fn has_answer<C: Case>(case: &C, state: &C::State, answer: Option<&C::Answer>, d
     }
 }
 
-// Makes the call on the state, its nth allocation refused, and again where that allocation came. Returns whether it came.
+// Makes the call on the state, with its nth allocation refused, and again if it made that allocation. Returns whether it
+// did.
 fn refuse<B: Allocator, C: Case>(
     heap: &Refusing<B>,
     case: &C,
@@ -117,8 +118,8 @@ fn refuse_anew<B: Allocator, C: Case>(
     was_refused
 }
 
-/// Refuses each allocation of the call in turn, each time on a new state, so that no room is left of a refused call.
-/// Where an allocation is refused, the call runs out of memory, the readers answer as before, and the same call then
+/// Refuses each allocation of the call in turn, each time on a new state, so that no room is left over from a refused call.
+/// With an allocation refused, either the call runs out of memory, the readers answer as before, and the same call then
 /// answers `due`; or it answers `due` at once, without that memory. Returns how many allocations were refused.
 pub fn refuse_each<B: Allocator, C: Case>(
     heap: &Refusing<B>,

@@ -1,4 +1,4 @@
--- How a walk brings operations from place to place: the words of the code's own contracts.
+-- How a walk updates operations from place to place.
 use Rattle.std.specs.Prelude.{ℕ, ◌+◌, ◌&&◌, ◌==◌, List, [], ◌∷◌, if◌then◌else◌, Option, Some, None}
 use Rattle.std.specs.Option.{option_map_or}
 use Rattle.acta_table.specs.declared.answer.Fate.{Fate}
@@ -10,15 +10,15 @@ use Rattle.acta_table.specs.Fates.{is_open}
 use Rattle.acta_table.specs.Sets.{is_named}
 use Rattle.acta_sets.specs.declared.held_op.HeldOp.{HeldOp}
 
--- the operation, in the hand of u
+-- the operation, held by u
 abbrev pub in_hand : TxnId → HeldOp → HeldOp
 in_hand u x = record x { holder = u }
 
--- the operation, ended so
+-- the operation, with this fate
 abbrev pub ended_so : Fate → HeldOp → HeldOp
 ended_so fate x = record x { fate = fate }
 
--- how operation n, in progress, stands behind an event, given the heir of the one that commits by it
+-- operation n, in progress, after an event, given the heir of the transaction that commits by the event
 abbrev pub held_behind : {A : Type 0} → Option TxnId → Event A → ℕ → HeldOp → HeldOp
 held_behind heir (Split s u class ops) n x = if (s.0 == x.holder.0) && is_named ops n then in_hand u x else x
 held_behind heir (Join s u) n x = if s.0 == x.holder.0 then in_hand u x else x
@@ -28,27 +28,27 @@ held_behind heir (Commit s) n x =
 held_behind heir (Abort s) n x = if s.0 == x.holder.0 then ended_so Aborted x else x
 held_behind heir _ n x = x
 
--- operation n, one event further; once committed or aborted it stays so
+-- operation n after an event; a committed or aborted operation does not change
 abbrev pub brought : {A : Type 0} → Option TxnId → Event A → ℕ → HeldOp → HeldOp
 brought heir e n x = if is_open x.fate then held_behind heir e n x else x
 
--- operations of which the first has the number n, one event further
+-- the operations, of which the first has the number n, after an event
 abbrev pub brought_from : {A : Type 0} → Option TxnId → Event A → ℕ → List HeldOp → List HeldOp
 brought_from heir e n [] = []
 brought_from heir e n (x ∷ xs) = brought heir e n x ∷ brought_from heir e (n + 1) xs
 
--- the operation that an event is, in the hand of its invoker
+-- the operation that an event does, held by its invoker
 abbrev pub op_done : {A : Type 0} → Event A → Option HeldOp
 op_done (Operate t object op) =
     Some (record { ob = object; op = op; holder = t; fate = InProgress })
 op_done _ = None
 
--- how operation o stands one event further, if it is there, where the next operation has the number n
+-- operation o after an event, if it exists then; the next operation would have the number n
 abbrev pub followed_on : {A : Type 0} → Option TxnId → Event A → ℕ → ℕ → Option HeldOp → Option HeldOp
 followed_on heir e o n None = if n == o then op_done e else None
 followed_on heir e o n (Some x) = Some (brought heir e o x)
 
--- the number of the next operation behind an event
+-- the number of the next operation after an event
 abbrev pub next_number : {A : Type 0} → Event A → ℕ → ℕ
 next_number (Operate t object op) n = n + 1
 next_number _ n = n

@@ -1,4 +1,4 @@
--- What a walk keeps of each transaction, in a table by number: the words of the code's own contracts.
+-- The record that a walk keeps of each transaction, in a table by transaction number.
 use Rattle.std.specs.Prelude.{ℕ, leb, Bool, ◌||◌, ◌==◌, List, get_or, if◌then◌else◌, Option, Some, None, option_map, is_some, false}
 use Rattle.std.specs.Option.{option_map_or, option_and_then}
 use Rattle.acta_table.specs.declared.event.ClassId.{ClassId}
@@ -13,7 +13,7 @@ use Rattle.acta_axioms.specs.declared.txn_record.TxnRecord.{TxnRecord}
 use Rattle.acta_axioms.specs.History.{course, end, class_number, parent_of}
 use Rattle.acta_axioms.specs.Operations.{heir}
 
--- one that no item names
+-- the record of a transaction that no item names
 abbrev pub unbegun : TxnRecord
 unbegun = record {
   course = record { start = None; commit = None; abort = None; join = None };
@@ -21,11 +21,11 @@ unbegun = record {
   parent = None;
 }
 
--- the class of this number, if there is one
+-- the class with this number, if there is one
 abbrev pub class_id : Option ℕ → Option ClassId
 class_id class = option_map (λ n. record { 0 = n }) class
 
--- the course of t in a history, the class that it started with and its parent there
+-- the record of t in a history: its course, the class it started with, and its parent
 abbrev pub txn_record : {A : Type 0} → List (Kept A) → ℕ → TxnRecord
 txn_record h t = record {
   course = course h t;
@@ -33,25 +33,25 @@ txn_record h t = record {
   parent = parent_of h t;
 }
 
--- whether t has begun by a table of lineages, which has none for those behind its end
+-- whether t has begun according to the table; transactions past its end have not
 abbrev pub begun_in : List TxnRecord → ℕ → Bool
 begun_in lines t = is_some (get_or lines t unbegun).course.start
 
--- whether t has ended by such a table
+-- whether t has ended according to the table
 abbrev pub ended_in : List TxnRecord → ℕ → Bool
 ended_in lines t = is_some (end (get_or lines t unbegun).course)
 
--- whether by the event one that has ended permits something, or is permitted something
+-- whether the event is a permit by or for a transaction that has ended
 abbrev pub is_late : {A : Type 0} → (ℕ → Bool) → Event A → Bool
 is_late ended (Permit t u ob) = ended t.0 || ended u.0
 is_late ended _ = false
 
--- the place that was there, or else this one
+-- the earlier place, or this one if there is none
 abbrev pub or_at : ℕ → Option ℕ → Option ℕ
 or_at place None = Some place
 or_at place (Some first) = Some first
 
--- the lineage of one that starts at this place, unless it has started before
+-- the record of a transaction that starts at this place, unless it has started before
 abbrev pub started : ℕ → ClassId → Option TxnId → TxnRecord → TxnRecord
 started place class parent line =
     if is_some line.course.start
@@ -62,7 +62,7 @@ started place class parent line =
       parent = parent;
     }
 
--- the lineage of t with one more event, at this place behind the others, given who has begun before
+-- the record of t after the event at this place, given which transactions have begun before
 abbrev pub further : {A : Type 0} → ℕ → (ℕ → Bool) → Event A → ℕ → TxnRecord → TxnRecord
 further place begun (Begin s class) t line = if s.0 == t then started place class None line else line
 further place begun (Spawn v s class) t line =
@@ -77,30 +77,30 @@ further place begun (Abort s) t line =
     if s.0 == t then record line { course = record line.course { abort = or_at place line.course.abort } } else line
 further place begun _ t line = line
 
--- the class of this lineage, where it is in the model
+-- the class of the record, if it is in the model
 abbrev pub class_by : {A : Type 0} → Parts A → TxnRecord → Option (Class A)
 class_by m line = option_and_then (λ class. class_at m class.0) line.class
 
--- the heir of one of this lineage: its parent, where its class says so
+-- the heir of the record's transaction: its parent, if its class commits to parents
 abbrev pub heir_of_line : {A : Type 0} → Parts A → TxnRecord → Option TxnId
 heir_of_line m line =
     if option_map_or (λ k. has_heir k.at_commit) (class_by m line) false then line.parent else None
 
--- the heir of the one that commits by an event that stands behind these items
+-- the heir of the transaction that commits by an event after these items
 abbrev pub heir_by : {A : Type 0} → Parts A → List (Kept A) → Event A → Option TxnId
 heir_by m before (Commit t) = heir m before t.0
 heir_by m before _ = None
 
--- the same by a table of lineages
+-- the same, according to a table of records
 abbrev pub heir_in : {A : Type 0} → Parts A → List TxnRecord → Event A → Option TxnId
 heir_in m lines (Commit t) = heir_of_line m (get_or lines t.0 unbegun)
 heir_in m lines _ = None
 
--- of a lineage what the first n places give, but for ends
+-- the record after the first n places, except for ends
 abbrev pub before_place : ℕ → TxnRecord → TxnRecord
 before_place n line = if option_map_or (λ start. leb start n) line.course.start false then line else unbegun
 
--- the heir of the one that commits by an event behind the first n places, by a table of all places
+-- the heir of the transaction that commits by an event after the first n places, given the table for all places
 abbrev pub heir_before : {A : Type 0} → Parts A → ℕ → List TxnRecord → Event A → Option TxnId
 heir_before m n lines (Commit t) = heir_of_line m (before_place n (get_or lines t.0 unbegun))
 heir_before m n lines _ = None

@@ -1,4 +1,4 @@
--- What a walk keeps, and what it looks for in it: the words of the code's own contracts.
+-- The data that a walk keeps, and the searches in it.
 use Rattle.std.specs.Prelude.{ℕ, ◌≡◌, ◌≤◌, ◌<◌, Bool, ◌&&◌, not, ◌==◌, List, length, map, take, get_or, if◌then◌else◌, []}
 use Rattle.std.specs.List.{All, list_any}
 use Rattle.acta_table.specs.declared.dep.Edge.{Edge}
@@ -28,14 +28,14 @@ use Rattle.acta_axioms.specs.Edges.{edges}
 use Rattle.acta_axioms.specs.Walks.{held_ops}
 use Rattle.acta_axioms.specs.inside.TxnRecords.{unbegun, txn_record}
 
--- the permits that an event leaves: those that name the one that it ends are gone
+-- the permits that remain after an event: those of the transaction that it ends are removed
 abbrev pub permits_left : {A : Type 0} → Event A → Permitted → Permitted
 permits_left (Join t u) p = without_permits p t.0
 permits_left (Commit t) p = without_permits p t.0
 permits_left (Abort t) p = without_permits p t.0
 permits_left _ p = p
 
--- the permits, one event further: a permit is added, unless it is late
+-- the permits after an event: a permit is added, unless it is late
 abbrev pub permits_behind : {A : Type 0} → Bool → Event A → Permitted → Permitted
 permits_behind late (Permit t u ob) p = if late then p else with_permit p t.0 u.0 ob.0
 permits_behind late e p = permits_left e p
@@ -44,8 +44,8 @@ permits_behind late e p = permits_left e p
 unfoldable pub is_left : {A : Type 0} → List (Kept A) → ℕ → ℕ → ℕ → Bool
 is_left h s t object = has_permitted h s t object && not (has_ended h s) && not (has_ended h t)
 
--- what is kept is what the definitions give behind the first n items: the lineage of each transaction, the
--- operations on the objects of the model, the edges, and the permits that can still count
+-- the data agree with the definitions after the first n items: the record of each transaction, the operations on the
+-- objects of the model, the edges, and the permits that can still be in force
 pub record IsKept {A : Type 0} (m : Parts A) (h : List (Kept A)) (n : ℕ)
     (lines : List TxnRecord) (store : Stored) (formed : List Edge) (permitted : Permitted) : Type 0 where
   pub within : n ≤ length h
@@ -57,11 +57,11 @@ pub record IsKept {A : Type 0} (m : Parts A) (h : List (Kept A)) (n : ℕ)
   pub edges_are : formed ≡ edges m (take n h)
   pub permits_are : (s t object : ℕ) → permitted s t object ≡ is_left (take n h) s t object
 
--- how the operation stands
+-- the standing of the operation
 abbrev pub standing_in : HeldOp → Standing
 standing_in x = record { holder = x.holder.0; fate = x.fate }
 
--- the ancestors of t that its class leaves out of its conflict set
+-- the ancestors of t that its class exempts
 abbrev pub exempt : {A : Type 0} → Parts A → List (Kept A) → ℕ → List TxnId
 exempt m h t = if has_class (λ k. exempts k.scope) m h t then ancestors h t else []
 
@@ -69,20 +69,20 @@ exempt m h t = if has_class (λ k. exempts k.scope) m h t then ancestors h t els
 abbrev pub exempt_numbers : {A : Type 0} → Parts A → List (Kept A) → ℕ → List ℕ
 exempt_numbers m h t = ascending (map (λ u. u.0) (exempt m h t))
 
--- these are those whose operations on the object t is exempt
+-- these are the transactions whose operations on the object are exempt from conflicts with t
 abbrev pub AreExempt : {A : Type 0} → Parts A → List (Kept A) → ℕ → ℕ → List ℕ → Type 0
 AreExempt m h t object us = (u : ℕ) → list_any (λ k. k == u) us ≡ is_exempt m h t object u
 
--- whether the operation is on this object and of t's conflict set, and conflicts with one of t
+-- whether the operation is on this object, in t's conflict set, and conflicts with `op`
 abbrev pub is_against : {A : Type 0} → Parts A → List (Kept A) → ℕ → ℕ → Op → HeldOp → Bool
 is_against m h t object op x =
     (x.ob.0 == object) && (is_of_others m h t object (standing_in x) && conflict_on m object x.op op)
 
--- whether the operation is one of those that are looked for
+-- whether the operation matches the search
 abbrev pub is_sought : {A : Type 0} → Parts A → List (Kept A) → ℕ → Sought → HeldOp → Bool
 is_sought m h t Others x = is_of_others m h t x.ob.0 (standing_in x)
 is_sought m h t (Against object op) x = is_against m h t object.0 op x
 
--- the numbers of the operations that pass
+-- the numbers of the operations that pass the test
 abbrev pub numbers_of : (HeldOp → Bool) → List HeldOp → List OpNo
 numbers_of test items = map (λ n. record { 0 = n }) (numbers_where test items)

@@ -1,4 +1,4 @@
--- That the places of a course are among the first n.
+-- Courses whose places are among the first n.
 use Rattle.std.specs.Prelude.{ℕ, ◌≤◌, Option, Some, None, ⊤}
 use Rattle.acta_axioms.specs.declared.course.Course.{Course}
 
@@ -7,7 +7,7 @@ abbrev pub within : ℕ → Option ℕ → Type 0
 within n None = ⊤
 within n (Some m) = m ≤ n
 
--- each place of the course that is there is at most n
+-- every place of the course is at most n
 pub record IsWithin (n : ℕ) (c : Course) : Type 0 where
   pub start : within n c.start
   pub commit : within n c.commit

@@ -1,4 +1,4 @@
--- What stands behind a debugger.
+-- The invariant of a debugger.
 use Rattle.std.specs.Prelude.{◌≡◌, ◌≤◌, ℕ, All, Bool, List, length, nat_le, take}
 use Rattle.acta_table.specs.declared.event.Kept.{Kept}
 use Rattle.acta_table.specs.declared.model.Parts.{Parts}
@@ -13,7 +13,7 @@ use Rattle.acta_debug.specs.Sessions.{Session}
 abbrev pub session_of : {A : Type 0} → State A → List (Kept A) → ℕ → List Break → Session A
 session_of machine history at breaks = record { model = machine.model; history = history; at = at; breaks = breaks }
 
--- the list is a history of the machine's model, and the machine has kept the events of it that are behind the place
+-- the list is a history of the machine's model, and the machine has kept its events up to the place
 pub record IsInside {A : Type 0} (machine : State A) (history : List (Kept A)) (at : ℕ) : Type 0 where
   pub whole : IsHistory machine.model history
   pub kept : machine.kept ≡ take at history
@@ -21,20 +21,20 @@ pub record IsInside {A : Type 0} (machine : State A) (history : List (Kept A)) (
   pub few : length history ≤ MOST_EVENTS
   pub follows : FollowsPlaces machine
 
--- the machine has kept the first so many items of the history
+-- the machine has kept a prefix of the history
 pub record IsFront {A : Type 0} (m : Parts A) (history : List (Kept A)) (machine : State A) : Type 0 where
   pub model : machine.model ≡ m
   pub kept : machine.kept ≡ take (length machine.kept) history
 
--- whether the machine has kept at most so many events
+-- whether the machine has kept at most n events
 abbrev pub has_kept_within : {A : Type 0} → ℕ → State A → Bool
 has_kept_within n machine = nat_le (length machine.kept) n
 
--- each of the machines has
+-- each of the machines has kept a prefix
 pub record AreFronts {A : Type 0} (m : Parts A) (history : List (Kept A)) (machines : List (State A)) : Type 0 where
   pub each : All (IsFront m history) machines
 
--- the machine is inside, and the checkpoints have kept fronts of the history
+-- the machine is at the place, and the checkpoints have kept prefixes of the history
 pub record IsBehind {A : Type 0} (machine : State A) (history : List (Kept A)) (at : ℕ) (checkpoints : List (State A)) : Type 0 where
   pub stands : IsInside machine history at
   pub fronts : AreFronts machine.model history checkpoints

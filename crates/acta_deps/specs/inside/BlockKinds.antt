@@ -1,6 +1,9 @@
--- What each of the blocks asks of an edge, and who owes what by it.
+-- The test that each kind of block applies to an edge, and which transaction it blocks.
 use Rattle.std.specs.Prelude.{ℕ, Bool, ◌&&◌, ◌==◌, false, List, Option, Some, None, is_some}
+use Rattle.acta_table.specs.declared.dep.Dep.{Dep}
 use Rattle.acta_table.specs.declared.dep.Edge.{Edge}
+use Rattle.acta_table.specs.declared.event.TxnId.{TxnId}
+use Rattle.acta_table.specs.Edges.{is_among}
 use Rattle.acta_table.specs.declared.answer.Status.{Status}
 use Rattle.acta_deps.specs.declared.block_kind.BlockKind.{BlockKind}
 use Rattle.acta_deps.specs.declared.block_kind.BlockKind.TheVariants.{AwaitsBegin, AwaitsEnd, AwaitsCommit, AwaitsAbort, EndsAfter, CommittedFirst, BeganFirst, CannotPayCommit, CannotPayAbort, OwesCommit, OwesAbort}
@@ -23,7 +26,7 @@ blocks CannotPayAbort = is_awaited cannot_pay_abort
 blocks OwesCommit = owes_commit
 blocks OwesAbort = owes_abort
 
--- the transaction of the edge that is blocked
+-- the transaction of the edge that this kind of block can block
 abbrev pub party : BlockKind → Edge → ℕ
 party CommittedFirst e = e.i.0
 party BeganFirst e = e.i.0
@@ -31,17 +34,26 @@ party CannotPayCommit e = e.i.0
 party CannotPayAbort e = e.i.0
 party _ e = e.j.0
 
--- whether t owes the event by this edge
+-- whether t owes the event because of this edge
 abbrev pub owes : Missing → (ℕ → Status) → ℕ → Edge → Bool
 owes Commit = owes_commit
 owes Abort = owes_abort
 
--- what is known of one that owes an event: whether it owes the other
+-- whether t owes the event because of an edge of this kind on i
+abbrev pub owes_by_kind : Missing → (ℕ → Status) → List Edge → TxnId → TxnId → Dep → Bool
+owes_by_kind missing status edges i t kind =
+    is_among edges (record { kind = kind; j = t; i = i }) && owes missing status t.0 (record { kind = kind; j = t; i = i })
+
+-- whether t owes the event because of this edge, which is on i
+abbrev pub owes_upon : Missing → (ℕ → Status) → ℕ → ℕ → Edge → Bool
+owes_upon missing status i t e = (e.i.0 == i) && owes missing status t e
+
+-- whether the other event is owed too, given which event is owed
 abbrev pub other_of : Option Missing → Bool → Bool → Bool
 other_of None commit abort = false
 other_of (Some Commit) commit abort = abort
 other_of (Some Abort) commit abort = commit
 
--- whether the edge is on t and by it one owes something that owes both, where all these edges are in force
+-- whether the edge depends on t, and its dependent has a debt by it and owes both events
 abbrev pub would_owe_both : (ℕ → Status) → List Edge → ℕ → Edge → Bool
 would_owe_both status edges t e = (e.i.0 == t) && is_some (debt_of status e) && owes_both status edges e.j.0

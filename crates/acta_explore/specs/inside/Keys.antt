@@ -1,4 +1,4 @@
--- What the key of a point has.
+-- The key of a point.
 use Rattle.std.specs.Prelude.{◌≡◌, ℕ, None, length, filter, get_or}
 use Rattle.std.specs.List.Sorted.{IsPermutation}
 use Rattle.acta_table.specs.declared.answer.Status.TheVariants.{NotBegun}
@@ -14,7 +14,7 @@ use Rattle.acta_explore.specs.Programs.{Programs, lines_done}
 abbrev pub no_txn : Txn
 no_txn = record { status = NotBegun; class = None; parent = None }
 
--- what the machine knows of a transaction
+-- the machine's record of a transaction
 abbrev pub txn_in : {A : Type 0} → State A → ℕ → Txn
 txn_in state t = record { status = status_in state t; class = class_in state t; parent = parent_in state t }
 

@@ -1,4 +1,4 @@
--- Lists of points to which others are put, unless they are related to one that is there.
+-- Lists of points to which others are added, unless they are related to one that is there.
 use Rattle.std.specs.Prelude.{◌≡◌, ◌⊎◌, ⊤, List, [], ◌∷◌, ◌++◌, map}
 use Rattle.std.specs.List.{All, Contains}
 use Rattle.acta_explore.specs.declared.key.Key.{Key}
@@ -15,16 +15,16 @@ pub record HasLike {A : Type 0} (R : Point A → Point A → Type 0) (points : L
   pub within : Contains points by
   pub related : R by q
 
--- a point is put behind the others, of which each is unlike it, or one of the others is related to it
+-- a point is added to the list, if no point there is like it, or left out since one there is related to it
 abbrev pub IsPut : {A : Type 0} → (Point A → Point A → Type 0) → (Point A → Point A → Type 0) → List (Point A) → Point A → List (Point A) → Type 0
 IsPut R Unlike old p new = ((new ≡ old ++ p ∷ []) × All (λ x. Unlike x p) old) ⊎ ((new ≡ old) × HasLike R old p)
 
--- these points are put to the others, one after another
+-- these points are added to the list, one after another
 abbrev pub IsMerged : {A : Type 0} → (Point A → Point A → Type 0) → (Point A → Point A → Type 0) → List (Point A) → List (Point A) → List (Point A) → Type 0
 IsMerged R Unlike old [] new = new ≡ old
 IsMerged R Unlike old (p ∷ ps) new = (mid : List (Point _)) × IsPut R Unlike old p mid × IsMerged R Unlike mid ps new
 
--- nothing is said of points that are put
+-- the relation that holds of any two points
 abbrev pub AreAny : {A : Type 0} → Point A → Point A → Type 0
 AreAny p q = ⊤
 
@@ -36,7 +36,7 @@ HaveOthers programs p q = outcome programs p ≡ outcome programs q → ⊥
 abbrev pub points_of : {K A : Type 0} → List (K × Point A) → List (Point A)
 points_of entries = map (λ e. e.1) entries
 
--- and what their keys show, where these are outcomes
+-- the abstract outcomes that are keys of a map
 abbrev pub outcomes_of : {A : Type 0} → List (Outcome A × Point A) → List (an_outcome A)
 outcomes_of entries = map (λ e. shown e.0) entries
 
@@ -44,6 +44,6 @@ outcomes_of entries = map (λ e. shown e.0) entries
 abbrev pub AreKeyed : {A : Type 0} → Programs A → List (Key A × Point A) → Type 0
 AreKeyed programs entries = All (λ e. IsKeyOf programs e.1 e.0) entries
 
--- and each outcome that of its point
+-- each outcome is that of its point
 abbrev pub AreOutcomes : {A : Type 0} → Programs A → List (Outcome A × Point A) → Type 0
 AreOutcomes programs entries = All (λ e. shown e.0 ≡ outcome programs e.1) entries

@@ -5,7 +5,7 @@ use Rattle.acta_explore.specs.declared.point.Done.{Done}
 use Rattle.acta_explore.specs.declared.point.Step.{Step}
 use Rattle.acta_explore.specs.Programs.{done_by}
 
--- the table, where the entry at position n did this unless it did something before
+-- the table with this entry at position n, if there was none
 abbrev pub noted_at : ℕ → Done → List (Option Done) → List (Option Done)
 noted_at n did [] = []
 noted_at zero did (done ∷ others) = option_or done (Some did) ∷ others

@@ -1,4 +1,4 @@
--- Points whose machine numbers operations by the lines that did them.
+-- Points whose steps did different lines, so that these number the machine's operations.
 use Rattle.std.specs.Prelude.{◌≡◌, ⊤, ℕ, ◌==◌, false, List, [], ◌∷◌, length, map}
 use Rattle.std.specs.List.{AllByRecursion}
 use Rattle.acta_table.specs.declared.event.Kept.{Kept}
@@ -7,7 +7,7 @@ use Rattle.acta_explore.specs.Equivalence.{known}
 use Rattle.acta_explore.specs.Points.{Point}
 use Rattle.acta_explore.specs.Programs.{operated_lines}
 
--- each element is related to each after it
+-- each element is related to each later element
 abbrev pub Pairs : {X : Type 0} → (X → X → Type 0) → List X → Type 0
 Pairs B [] = ⊤
 Pairs B (x ∷ xs) = AllByRecursion (B x) xs × Pairs B xs
@@ -24,7 +24,7 @@ IsUndone steps l = AllByRecursion (λ s. Differ s.line l) steps
 abbrev pub HaveOwnLines : List Step → Type 0
 HaveOwnLines steps = Pairs Differ (map (λ s. s.line) steps)
 
--- each step is that of an event, in order, and returned what the event did
+-- the steps are those of the events, in order, with the same returns
 abbrev pub ReturnAsKept : {A : Type 0} → List Step → List (Kept A) → Type 0
 ReturnAsKept steps kept = map (λ s. s.ret) steps ≡ map (λ k. k.ret) kept
 

@@ -1,4 +1,4 @@
--- What the structs of an outcome stand for.
+-- The abstract values of the structs of an outcome.
 use Rattle.std.specs.Prelude.{List, map, Option, option_map}
 use Rattle.acta_table.specs.declared.dep.Edge.{Edge}
 use Rattle.acta_table.specs.declared.dep.Owed.{Owed}
@@ -29,7 +29,7 @@ shown o = record {
   debts = o.debts.items;
 }
 
--- a debt by the number of its edge, where these are the edges
+-- the debt of the edge with this number in the list
 abbrev pub debt_among : List Edge → Owed → Option Debt
 debt_among edges owed =
     option_map (λ e. record { kind = e.kind; txn = e.j; on = e.i }) (item_at edges owed.edge.0)

@@ -14,15 +14,15 @@ abbrev pub turns_of_line : {A : Type 0} → Programs A → ℕ → ℕ → List 
 turns_of_line programs seat l =
     map (λ alternative. record { seat = seat; alternative = alternative }) (range_with_len 0 (alternatives_at programs l))
 
--- the turns of a seat, where this is what each line did
+-- the turns of a seat; the list has what each line did
 abbrev pub turns_of_seat : {A : Type 0} → Programs A → List (Option Done) → ℕ → List Turn
 turns_of_seat programs done seat = option_map_or (turns_of_line programs seat) (next_from 0 programs done seat) []
 
--- those of all seats: by seat, and then by alternative
+-- the turns of all seats, by seat and then by alternative
 abbrev pub turns_at : {A : Type 0} → Programs A → List (Option Done) → List Turn
 turns_at programs done = flat_map (turns_of_seat programs done) (seats_of programs)
 
--- the points that the steps from a point lead to, in that order
+-- the points after each step from a point, in that order
 abbrev pub successors : {A : Type 0} → Programs A → Point A → List (Point A)
 successors programs p = filter_map (stepped programs p) (turns_at programs (lines_done programs p.steps))
 
@@ -30,6 +30,6 @@ abbrev pub is_nil : {X : Type 0} → List X → Bool
 is_nil [] = true
 is_nil (x ∷ xs) = false
 
--- those of the points that have no step
+-- the points of the list that have no step
 abbrev pub ends_among : {A : Type 0} → Programs A → List (Point A) → List (Point A)
 ends_among programs points = filter (λ p. is_nil (successors programs p)) points

@@ -1,4 +1,4 @@
--- Examples of the clash of debts, and of verdicts as a whole: their order, and that each fault stands once.
+-- Examples of the clash of debts, and of whole verdicts: their order, and that each fault is listed once.
 use Rattle.std.specs.Prelude.{pos, [], ◌∷◌, ◌≡◌, refl}
 use Rattle.acta_table.specs.declared.dep.Dep.TheVariants.{Cd, Scd, Ad, Ed, Cmd}
 use Rattle.acta_table.specs.declared.dep.Missing.TheVariants.{Commit, Abort}
@@ -35,13 +35,13 @@ clashes_once : verdict free (form Scd 3 1 ∷ form Ad 3 2 ∷ form Cmd 3 2 ∷ f
 unfolding verdict all_faults owed breaches bad_number bad_class bad_object bad_operation same_transaction is_false place_broken axiom_number
 clashes_once = refl
 
--- two owe both: by number
+-- two transactions owe both: in order of their numbers
 clashes_in_two : verdict free (form Scd 4 2 ∷ form Ed 4 2 ∷ form Scd 3 2 ∷ form Ed 3 2 ∷ begin 2 0 ∷ begin 3 0 ∷ begin 4 0 ∷ commit 2 ∷ [])
     ≡ record { faults = fault Clash 8 3 ∷ fault Clash 8 4 ∷ []; owed = owes 1 4 Commit ∷ owes 2 4 Abort ∷ owes 3 3 Commit ∷ owes 4 3 Abort ∷ [] }
 unfolding verdict all_faults owed breaches bad_number bad_class bad_object bad_operation same_transaction is_false place_broken axiom_number
 clashes_in_two = refl
 
--- the one that owed both has ended: the debt that its end did not pay is a fault
+-- the transaction that owed both has ended: the debt that its end did not pay is a fault
 clashes_no_more : verdict free (form Scd 3 2 ∷ form Ed 3 2 ∷ begin 2 0 ∷ begin 3 0 ∷ commit 2 ∷ abort 3 ∷ [])
     ≡ found (fault (Dependency Scd) 6 1 ∷ [])
 unfolding verdict all_faults owed breaches bad_number bad_class bad_object bad_operation same_transaction is_false place_broken
@@ -58,13 +58,14 @@ again_and_again : verdict model (commit 2 ∷ commit 2 ∷ commit 2 ∷ [])
 unfolding verdict all_faults owed breaches bad_number bad_class bad_object bad_operation same_transaction is_false place_broken axiom_number
 again_and_again = refl
 
--- one that has committed reads what was never there, where another has written: three faults at one place
+-- a committed transaction reads a value that was never there, of an object that another has written: three faults at one
+-- place
 at_one_place : verdict model (begin 6 0 ∷ begin 7 0 ∷ operate 6 0 (Write (pos 5)) Done ∷ commit 7 ∷ operate 7 0 Read (Value (pos 9)) ∷ [])
     ≡ found (fault OperatesInProgress 5 7 ∷ fault Conflict 5 1 ∷ fault Return 5 2 ∷ [])
 unfolding verdict all_faults owed breaches bad_number bad_class bad_object bad_operation same_transaction is_false place_broken axiom_number is_permitted
 at_one_place = refl
 
--- an edge of one on itself, whose formula its abort makes false
+-- an edge of a transaction on itself, whose formula its abort makes false
 upon_itself : verdict free (form Cmd 7 7 ∷ begin 7 0 ∷ abort 7 ∷ [])
     ≡ found (fault FormOfEvent 1 7 ∷ fault (Dependency Cmd) 3 1 ∷ [])
 unfolding verdict all_faults owed breaches bad_number bad_class bad_object bad_operation same_transaction is_false place_broken axiom_number
@@ -87,7 +88,7 @@ formed_twice : verdict free (form Ad 6 5 ∷ form Ad 6 5 ∷ form Cd 6 5 ∷ beg
 unfolding verdict all_faults owed breaches bad_number bad_class bad_object bad_operation same_transaction is_false place_broken
 formed_twice = refl
 
--- one reads what another has written, which aborts: it owes an abort by the first of two edges
+-- a transaction reads what another has written, which aborts: it owes an abort by the first of two edges
 edges_by_behaviour : verdict loose (begin 6 0 ∷ begin 7 0 ∷ operate 6 0 (Write (pos 5)) Done ∷ operate 7 0 Read (Value (pos 5)) ∷ abort 6 ∷ [])
     ≡ owing (owes 1 7 Abort ∷ [])
 unfolding verdict all_faults owed breaches bad_number bad_class bad_object bad_operation same_transaction is_false place_broken is_permitted

@@ -1,4 +1,4 @@
--- Examples of the axioms on dependencies: for each kind what breaks its formula, by each of the ways, and what meets it.
+-- Examples of the axioms on dependencies: for each kind the ways to make its formula false, and a history that satisfies it.
 -- The edge is the second, of 4 on 3, and all faults name it.
 use Rattle.std.specs.Prelude.{[], ◌∷◌, ◌≡◌, refl}
 use Rattle.acta_table.specs.declared.dep.Dep.TheVariants.{Cd, Scd, Ad, Wd, Td, Ed, Cmd, Bd, Sd, Bcd, Bad, Wcd}
@@ -15,7 +15,7 @@ use Rattle.acta_judge.specs.Broken.{place_broken}
 use Rattle.acta_judge.specs.Verdicts.{all_faults, verdict}
 use Rattle.acta_judge.proofs.Histories.{found, owing, faultless, free, upon}
 
--- commit: 3 commits behind 4: the fault is where it does
+-- commit: 3 commits after 4: the fault is where it does
 cd_breaks : verdict free (upon Cd (begin 3 0 ∷ begin 4 0 ∷ commit 4 ∷ commit 3 ∷ begin 5 0 ∷ []))
     ≡ found (fault (Dependency Cd) 6 2 ∷ [])
 unfolding verdict all_faults owed breaches bad_number bad_class bad_object bad_operation same_transaction is_false place_broken
@@ -26,7 +26,7 @@ cd_holds : verdict free (upon Cd (begin 3 0 ∷ begin 4 0 ∷ commit 3 ∷ commi
 unfolding verdict all_faults owed breaches bad_number bad_class bad_object bad_operation same_transaction is_false place_broken
 cd_holds = refl
 
--- 3 aborts behind the commit of 4
+-- 3 aborts after the commit of 4
 cd_holds_by_an_abort : verdict free (upon Cd (begin 3 0 ∷ begin 4 0 ∷ commit 4 ∷ abort 3 ∷ [])) ≡ faultless
 unfolding verdict all_faults owed breaches bad_number bad_class bad_object bad_operation same_transaction is_false place_broken
 cd_holds_by_an_abort = refl
@@ -92,7 +92,7 @@ ad_holds : verdict free (upon Ad (begin 3 0 ∷ abort 3 ∷ begin 4 0 ∷ abort 
 unfolding verdict all_faults owed breaches bad_number bad_class bad_object bad_operation same_transaction is_false place_broken
 ad_holds = refl
 
--- weak-abort: 4 commits behind the abort of 3
+-- weak-abort: 4 commits after the abort of 3
 wd_breaks_by_a_commit : verdict free (upon Wd (begin 3 0 ∷ begin 4 0 ∷ abort 3 ∷ commit 4 ∷ begin 5 0 ∷ []))
     ≡ found (fault (Dependency Wd) 6 2 ∷ [])
 unfolding verdict all_faults owed breaches bad_number bad_class bad_object bad_operation same_transaction is_false place_broken
@@ -137,13 +137,13 @@ td_breaks_by_an_abort : verdict free (upon Td (begin 3 0 ∷ begin 4 0 ∷ begin
 unfolding verdict all_faults owed breaches bad_number bad_class bad_object bad_operation same_transaction is_false place_broken
 td_breaks_by_an_abort = refl
 
--- 4 ends twice, of which the first breaks it
+-- 4 ends twice; its first end breaks the formula
 td_breaks_first : verdict free (upon Td (begin 3 0 ∷ begin 4 0 ∷ abort 4 ∷ commit 4 ∷ []))
     ≡ found (fault EndedOnce 6 4 ∷ fault (Dependency Td) 5 2 ∷ [])
 unfolding verdict all_faults owed breaches bad_number bad_class bad_object bad_operation same_transaction is_false place_broken axiom_number
 td_breaks_first = refl
 
--- 4 joins another, which is neither a commit nor an abort, and commits behind it
+-- 4 joins another, which is neither a commit nor an abort, and commits after it
 td_breaks_behind_the_join_of_4 : verdict free (upon Td (begin 3 0 ∷ begin 4 0 ∷ begin 5 0 ∷ join 4 5 ∷ commit 4 ∷ []))
     ≡ found (fault EndedOnce 7 4 ∷ fault (Dependency Td) 7 2 ∷ [])
 unfolding verdict all_faults owed breaches bad_number bad_class bad_object bad_operation same_transaction is_false place_broken axiom_number
@@ -278,7 +278,7 @@ bcd_breaks : verdict free (upon Bcd (begin 3 0 ∷ begin 4 0 ∷ commit 3 ∷ []
 unfolding verdict all_faults owed breaches bad_number bad_class bad_object bad_operation same_transaction is_false place_broken
 bcd_breaks = refl
 
--- 4 begins behind an abort of 3
+-- 4 begins after an abort of 3
 bcd_breaks_behind_an_abort : verdict free (upon Bcd (begin 3 0 ∷ abort 3 ∷ begin 4 0 ∷ []))
     ≡ found (fault (Dependency Bcd) 5 2 ∷ [])
 unfolding verdict all_faults owed breaches bad_number bad_class bad_object bad_operation same_transaction is_false place_broken
@@ -294,7 +294,7 @@ bad_breaks : verdict free (upon Bad (begin 3 0 ∷ begin 4 0 ∷ abort 3 ∷ [])
 unfolding verdict all_faults owed breaches bad_number bad_class bad_object bad_operation same_transaction is_false place_broken
 bad_breaks = refl
 
--- 4 begins behind a commit of 3
+-- 4 begins after a commit of 3
 bad_breaks_behind_a_commit : verdict free (upon Bad (begin 3 0 ∷ commit 3 ∷ begin 4 0 ∷ []))
     ≡ found (fault (Dependency Bad) 5 2 ∷ [])
 unfolding verdict all_faults owed breaches bad_number bad_class bad_object bad_operation same_transaction is_false place_broken
@@ -316,7 +316,7 @@ wcd_holds : verdict free (upon Wcd (begin 3 0 ∷ commit 3 ∷ begin 4 0 ∷ [])
 unfolding verdict all_faults owed breaches bad_number bad_class bad_object bad_operation same_transaction is_false place_broken
 wcd_holds = refl
 
--- 3 aborts behind the start of 4
+-- 3 aborts after the start of 4
 wcd_holds_by_an_abort : verdict free (upon Wcd (begin 3 0 ∷ begin 4 0 ∷ abort 3 ∷ [])) ≡ faultless
 unfolding verdict all_faults owed breaches bad_number bad_class bad_object bad_operation same_transaction is_false place_broken
 wcd_holds_by_an_abort = refl

@@ -1,15 +1,15 @@
--- The places ahead of a walk, some at a time.
+-- The places ahead of a walk, part by part.
 use Rattle.std.specs.Prelude.{ℕ, List, [], ◌++◌, take, drop, flat_map}
 use Rattle.acta_axioms.specs.declared.fault.Fault.{Fault}
 use Rattle.acta_axioms.specs.Faults.{faults_at}
 use Rattle.acta_axioms.specs.History.{places_behind}
 use Rattle.acta_axioms.specs.Walks.{Walked}
 
--- the walk, n items further, or at its end
+-- the walk advanced by n items, or to its end
 abbrev pub advanced : {A : Type 0} → ℕ → Walked A → Walked A
 advanced n w = record { model = w.model; front = w.front ++ take n w.ahead; ahead = drop n w.ahead }
 
--- the faults at the next n places, or at all that are ahead
+-- the faults at the next n places, or at all that are left
 abbrev pub faults_ahead : {A : Type 0} → ℕ → Walked A → List Fault
 faults_ahead n w = flat_map (faults_at w.model) (places_behind w.front (take n w.ahead))
 
@@ -21,6 +21,6 @@ at_end w = record { model = w.model; front = w.front ++ w.ahead; ahead = [] }
 abbrev pub faults_left : {A : Type 0} → Walked A → List Fault
 faults_left w = flat_map (faults_at w.model) (places_behind w.front w.ahead)
 
--- lists, one behind the other
+-- lists, one after the other
 abbrev pub together : List (List Fault) → List Fault
 together parts = flat_map (λ part. part) parts

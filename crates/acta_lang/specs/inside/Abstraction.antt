@@ -1,4 +1,4 @@
--- What the code holds while it reads a text, as the draft that it stands for.
+-- The draft that the code's state stands for.
 use Rattle.std.specs.Option.{option_map_or}
 use Rattle.std.specs.Prelude.{ℕ, Bool, false, List, map, option_map}
 use Rattle.acta_table.specs.declared.model.Class.{Class}
@@ -8,12 +8,12 @@ use Rattle.acta_lang.specs.declared.draft.ClassDraft.{ClassDraft}
 use Rattle.acta_lang.specs.declared.draft.ClosedDraft.{ClosedDraft}
 use Rattle.acta_lang.specs.declared.draft.ObjectDraft.{ObjectDraft}
 use Rattle.acta_lang.specs.declared.draft.Draft as held
-use Rattle.acta_lang.specs.declared.parsed.Said.{Said}
+use Rattle.acta_lang.specs.declared.parsed.Parsed.{Parsed}
 use Rattle.acta_lang.specs.Drafts.{Draft, OpenClass, closed}
 use denote.Ref.{Bor}
 
--- what a class has said, under this name
-abbrev pub class_shown : {A : Type 0} → List ℕ → Said A → OpenClass
+-- the parts given so far, under this name
+abbrev pub class_shown : {A : Type 0} → List ℕ → Parsed A → OpenClass
 class_shown name s = record {
   name = name;
   starts = s.starts;
@@ -26,18 +26,18 @@ class_shown name s = record {
   split_edges = s.split_edges.items;
 }
 
--- an object, and a class that is closed, under their names
+-- an object and a closed class under their names
 abbrev pub object_shown : {A : Type 0} → (Bor (List ℕ) × ObjectDraft) → Object A
 object_shown e = record { name = e.0.now; kind = e.1.kind }
 
 abbrev pub closed_shown : {A : Type 0} → (Bor (List ℕ) × ClosedDraft A) → Class A
 closed_shown e = closed (class_shown e.0.now e.1.parsed)
 
--- the class that is open
+-- the open class
 abbrev pub current_shown : {A : Type 0} → ClassDraft A → OpenClass
 current_shown c = class_shown c.name.now c.parsed
 
--- all of it
+-- the whole draft
 abbrev pub abstraction : {A : Type 0} → held.Draft A → Draft A
 abstraction d = record {
   objects = map object_shown d.objects.entries;
@@ -45,6 +45,6 @@ abstraction d = record {
   current = option_map current_shown d.current;
 }
 
--- whether the class that is open has the name of one that is closed
+-- whether the open class has the name of a closed one
 abbrev pub is_current_taken : {A : Type 0} → Draft A → Bool
 is_current_taken d = option_map_or (λ class. is_word_among (map (λ c. c.name) d.classes) class.name) d.current false

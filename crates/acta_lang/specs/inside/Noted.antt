@@ -25,7 +25,7 @@ pub record NotedName : Type 0 where
   pub name : List ℕ
   pub line : ℕ
 
--- the objects, the classes that are closed, and the class that is open
+-- the objects, the closed classes and the open class
 pub record Noted : Type 0 where
   pub objects : List NotedName
   pub classes : List NotedName
@@ -60,7 +60,7 @@ abbrev pub current_line : List ℕ → Option ClassAt → Option ℕ
 current_line name None = None
 current_line name (Some c) = if bytes_eq name c.name then Some c.line else None
 
--- one more object; a class less that is open; a line more of the class that is open
+-- one more object; the open class closed; one more line of the open class
 abbrev pub object_noted : Noted → List ℕ → ℕ → Noted
 object_noted x name line = record x { objects = x.objects ++ (record { name = name; line = line }) ∷ [] }
 
@@ -74,7 +74,7 @@ parsed_more parsed number c = record c { parts = with_line parsed number c.parts
 abbrev pub parsed_noted : Noted → ℕ → Form → Noted
 parsed_noted x number parsed = record x { current = option_map (parsed_more parsed number) x.current }
 
--- what is noted with the line of this number, of these words and this form
+-- the notes after the line of this number, words and form
 abbrev pub noted_by : ℕ → List (List ℕ) → Form → Noted → Noted
 noted_by number words form.Register x = object_noted x (name_in words) number
 noted_by number words form.Counter x = object_noted x (name_in words) number
@@ -83,7 +83,7 @@ noted_by number words form.Class x = record x { current = Some (begun (name_in w
 noted_by number words form.End x = closed_noted x x.current
 noted_by number words parsed x = parsed_noted x number parsed
 
--- the line and the class of a fault, by what is noted
+-- the line and the class of a fault, by the notes
 abbrev pub earlier_noted : Noted → List (List ℕ) → Form → Code → Option ℕ
 earlier_noted x words parsed DuplicateName =
     if is_class parsed then option_or (line_of (name_in words) x.classes) (current_line (name_in words) x.current)
@@ -95,7 +95,7 @@ abbrev pub class_noted : Noted → ℕ → List (List ℕ) → Form → Code →
 class_noted x number words parsed MissingEnd = if is_class parsed then Some (begun (name_in words) number) else x.current
 class_noted x number words parsed _ = x.current
 
--- the diagnostic of the line of this number that has this code
+-- the diagnostic of the line of this number with this code
 abbrev pub diagnosis : {A : Type 0} → Draft A → Noted → ℕ → List ℕ → Code → Diagnostic
 diagnosis d x number line code =
     let words = words_of line in
@@ -110,8 +110,8 @@ diagnosis d x number line code =
       class = class_noted x number words parsed code;
     }
 
--- a class has said the parts whose lines are noted
-pub record AreSaid (c : OpenClass) (lines : PartLines) : Type 0 where
+-- the class has exactly the parts whose lines are noted
+pub record AreParsed (c : OpenClass) (lines : PartLines) : Type 0 where
   pub starts : is_some lines.starts ≡ is_some c.starts
   pub may : is_some lines.may ≡ is_some c.may
   pub scope : is_some lines.scope ≡ is_some c.scope
@@ -119,12 +119,12 @@ pub record AreSaid (c : OpenClass) (lines : PartLines) : Type 0 where
   pub commit : is_some lines.commit ≡ is_some c.at_commit
   pub delegation : is_some lines.delegation ≡ is_some c.extent
 
-abbrev pub IsSaid : Option OpenClass → Option ClassAt → Type 0
-IsSaid None None = ⊤
-IsSaid (Some c) (Some k) = AreSaid c k.parts
-IsSaid _ _ = ⊥
+abbrev pub IsParsed : Option OpenClass → Option ClassAt → Type 0
+IsParsed None None = ⊤
+IsParsed (Some c) (Some k) = AreParsed c k.parts
+IsParsed _ _ = ⊥
 
--- what is noted is what these lines say
+-- the notes agree with these lines
 pub record IsNoted (before : List (List ℕ)) (x : Noted) : Type 0 where
   pub objects : (name : List ℕ) → line_of name x.objects ≡ first_line (declares is_object name) before
   pub classes : (name : List ℕ) → option_or (line_of name x.classes) (current_line name x.current) ≡ first_line (declares is_class name) before

@@ -1,15 +1,15 @@
--- What is written of a text piece by piece.
+-- Pieces of a written text.
 use Rattle.std.specs.Prelude.{ℕ, List, [], ◌∷◌, flat_map, map, codes}
 use Rattle.acta_table.specs.declared.model.Class.{Class}
 use Rattle.acta_words.specs.Text.{line_of, text_of}
 use Rattle.acta_lang.specs.Canonical.{may_words, policy_words, starts_words}
 use Rattle.acta_lang.specs.Words.{scope_word, commit_word, extent_word}
 
--- words, each behind a space
+-- words, each after a space
 abbrev pub spaced : List (List ℕ) → List ℕ
 spaced words = flat_map (λ word. 32 ∷ word) words
 
--- the lines of these words, with a line feed behind each
+-- the lines of these words, with a line feed after each
 abbrev pub written : List (List (List ℕ)) → List ℕ
 written lines = text_of (map line_of lines)
 

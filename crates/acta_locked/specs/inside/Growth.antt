@@ -1,4 +1,4 @@
--- What a desk answered in two stretches it answered in both together.
+-- Answers of a desk in two consecutive stretches add up.
 use Rattle.std.specs.Prelude.{◌≡◌, ℕ, List, [], ◌∷◌, ◌++◌, Result, Ok, Err}
 use Rattle.std.proofs.Common.{sym, ◌∙◌, refl, ap, subst, append_assoc, append-nil, arith, length-append}
 use Rattle.acta_locked.specs.declared.book.Entry.{Entry}

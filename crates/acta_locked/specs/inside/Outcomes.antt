@@ -1,4 +1,4 @@
--- What the threads of a driven run hand back.
+-- The results of the threads of a driven run.
 use Rattle.std.specs.Prelude.{◌≡◌, ◌≤◌, ℕ, Bool, true, false, List, length, Result, Ok, Err, ⊤}
 use Rattle.acta_table.specs.declared.event.Event.{Event}
 use Rattle.acta_table.specs.declared.event.Kept.{Kept}
@@ -15,7 +15,7 @@ use Rattle.acta_locked.specs.Drives.{MayFail, is_of_scripts}
 use Rattle.acta_locked.specs.Fronts.{AreFronts}
 use Rattle.acta_locked.specs.Gates.{LetOn}
 
--- what the worker of a seat, with a script, at a gate, may hand back
+-- a possible result of a worker with this seat and script at this gate
 abbrev pub IsOutcome : {A : Type 0} → (ℕ → ℕ → Type 0) → (ℕ → ℕ → Type 0) → (ℕ → ℕ → Entry A → Type 0) → ℕ
     → List (Event A) → Result (Report A) WorkError → Type 0
 IsOutcome may_stop may_pass may_go_on seat script (Ok report) =
@@ -24,24 +24,24 @@ IsOutcome may_stop may_pass may_go_on seat script (Err (GaveUp n)) =
     (n ≡ seat) × ((k : ℕ) × (1 ≤ k) × (k ≤ length script) × may_stop n k)
 IsOutcome may_stop may_pass may_go_on seat script (Err _) = ⊤
 
--- where a gate may stop, pass and go on, the other may, too
+-- whatever the first gate may do (stop, pass, go on), the second may do, too
 abbrev pub IsOfGate : {A : Type 0} → (ℕ → ℕ → Type 0) → (ℕ → ℕ → Type 0) → (ℕ → ℕ → Entry A → Type 0) → (ℕ → ℕ → Type 0)
     → (ℕ → ℕ → Type 0) → (ℕ → ℕ → Entry A → Type 0) → Type 0
 IsOfGate {A} may_stop may_pass may_go_on stop pass go_on =
     ((seat k : ℕ) → may_stop seat k → stop seat k) × ((seat k : ℕ) → may_pass seat k → pass seat k)
     × ((seat k : ℕ) (e : Entry A) → may_go_on seat k e → go_on seat k e)
 
--- why a run whose scripts nothing blocks may have no result
+-- the possible errors of a run whose scripts are valid
 abbrev pub MayEnd : {A : Type 0} → (ℕ → ℕ → Type 0) → List (List (Event A)) → DriveError → Type 0
 MayEnd may_stop scripts e = (is_of_scripts e ≡ false) × MayFail may_stop scripts e
 
--- whether nothing is known where a run has no result for this reason: of memory, of threads, or of a run that is unsettled
+-- whether the error implies nothing: memory, threads, or an unsettled run
 abbrev pub is_free : DriveError → Bool
 is_free drive.Memory = true
 is_free drive.NoThread = true
 is_free drive.Unsettled = true
 is_free _ = false
 
--- what a judging thread keeps: so many fronts, of its last copy of the history
+-- the state of a judging thread: this many fronts, of its last copy of the history
 abbrev pub AreSeen : {A : Type 0} → Parts A → ℕ → List (Kept A) → List (Front A) → Type 0
 AreSeen m turns history fronts = (length fronts ≡ turns) × AreFronts m history fronts

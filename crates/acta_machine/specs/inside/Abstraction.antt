@@ -1,4 +1,4 @@
--- The summary that the machine's lists show.
+-- The abstraction: the summary that the machine's lists represent.
 use Rattle.std.specs.Prelude.{ℕ, List, length, None, slice_get, unwrap_or}
 use Rattle.acta_deps.specs.Deps.{DepState, status_of}
 use Rattle.acta_table.specs.declared.event.Kept.{Kept}
@@ -8,15 +8,15 @@ use Rattle.acta_machine.specs.declared.machine_state.MachineState.{MachineState}
 use Rattle.acta_machine.specs.declared.machine_state.TxnRecord.{TxnRecord}
 use Rattle.acta_machine.specs.Summary.{Summary}
 
--- the origin of one that has not begun
+-- the record of a transaction that has not begun
 abbrev pub unbegun : TxnRecord
 unbegun = record { class = None; parent = None }
 
--- the origin of a transaction by the table, which has none for those behind its end
+-- the record of a transaction in the table, which has none past its end
 abbrev pub record_in : List TxnRecord → ℕ → TxnRecord
 record_in records t = unwrap_or (slice_get records t) unbegun
 
--- statuses and edges, the table of origins by number, the operations, the permits, and the events kept
+-- the summary of statuses and edges, the table of records, the operations, the permits, and the history
 abbrev pub summary_in : {A : Type 0} → DepState → List TxnRecord → List HeldOp → Permitted → List (Kept A) → Summary
 summary_in deps records operations permits kept = record {
   kept = length kept;

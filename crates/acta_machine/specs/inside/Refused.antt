@@ -10,10 +10,10 @@ use Rattle.acta_machine.specs.Reasons.{refusal_of, IsSo}
 use Rattle.acta_machine.specs.Rules.{lowest_broken}
 use Rattle.acta_machine.specs.Summary.{Summary}
 
--- the event breaks the rule of the reason, which is the lowest, and what the reason says is so; as one word
+-- the reason's rule is the lowest that the event breaks, and the reason's facts are true
 unfoldable pub IsRefusedBy : {A : Type 0} → Parts A → Summary → Event A → Reason → Type 0
 IsRefusedBy m s event reason = (lowest_broken m s event ≡ Some (refusal_of reason)) × IsSo m s event reason
 
--- each of these is refused for its reason
+-- each of these events is refused for its reason
 abbrev pub AreRefused : {A : Type 0} → Parts A → Summary → List (Refused A) → Type 0
 AreRefused m s refused = All (λ one. IsRefusedBy m s one.event one.reason) refused

@@ -1,4 +1,4 @@
--- The table of conflicts on counters is what conflict means.
+-- The table of conflicts on counters agrees with the definition of conflict.
 use Rattle.std.specs.Prelude.{◌≡◌, refl, true, false, not, ℤ, pos, ◌+ℤ◌}
 use Rattle.std.proofs.Common.{sym, ap, ◌∙◌, arith}
 use Rattle.std.proofs.lemmas.Int.{ints}
@@ -27,7 +27,7 @@ nothing_added n e = omega (arith, ints)
 is_nothing : (n : ℤ) → not (int_eq n (pos 0)) ≡ false → n ≡ pos 0
 is_nothing n e = (Decides-int_eq n (pos 0)).0 (true_from_not (int_eq n (pos 0)) e)
 
--- where the table says no, the order cannot tell
+-- if the table says no, the order makes no difference
 pub counter_commutes : (p q : Op) → counter_conflicts p q ≡ false → (v : ℤ) → IsNumber v → Commutes counter_step counter_return v p q
 counter_commutes Get (Add n) e v ok =
     record { state = refl; first = ap Value (add_nothing v n (is_nothing n e)); second = refl }
@@ -40,7 +40,7 @@ counter_commutes _ _ e v ok = record { state = refl; first = refl; second = refl
 no_zero : (n : ℤ) → not (int_eq n (pos 0)) ≡ true → n ≡ pos 0 → ⊥
 no_zero n e z = true≢false (sym e ∙ ap not ((Decides-int_eq n (pos 0)).1 z))
 
--- where it says yes, it does from zero
+-- if it says yes, the order makes a difference from zero
 pub counter_differs : (p q : Op) → counter_conflicts p q ≡ true → Conflict IsNumber counter_step counter_return p q
 counter_differs Get (Add n) e =
     record { from = pos 0; is_state = tt; differs = λ c. no_zero n e (nothing_added n (ap number_in c.first)) }
@@ -48,7 +48,7 @@ counter_differs (Add n) Get e =
     record { from = pos 0; is_state = tt; differs = λ c. no_zero n e (nothing_added n (sym (ap number_in c.second))) }
 counter_differs _ _ e = absurd (true≢false (sym e))
 
--- an operation that is none of counters conflicts with nothing
+-- an operation that does not belong to counters conflicts with nothing
 idle_right : (p q : Op) → is_counter_op q ≡ false → counter_conflicts p q ≡ false
 idle_right Get (Add n) e = absurd (true≢false e)
 idle_right (Add n) Get e = absurd (true≢false e)

@@ -1,4 +1,4 @@
--- The table of conflicts on registers is what conflict means.
+-- The table of conflicts on registers agrees with the definition of conflict.
 use Rattle.std.specs.Prelude.{◌≡◌, refl, Bool, true, false, not, ℤ, pos, ◌+ℤ◌, ◌-ℤ◌}
 use Rattle.std.proofs.Common.{sym, ap, ◌∙◌}
 use Rattle.std.proofs.Math.IntN.{+ℤ_comm, +ℤ_idl, +ℤ-neg_ℤ_cancel}
@@ -30,7 +30,7 @@ apart w e =
     sym (+ℤ-neg_ℤ_cancel (pos 1) w) ∙ ap (λ z. z -ℤ w) (+ℤ_comm (pos 1) w ∙ e ∙ sym (+ℤ_idl w)) ∙ +ℤ-neg_ℤ_cancel (pos 0) w in
     true≢false (sym (ap (λ z. int_eq z (pos 0)) one))
 
--- where the table says no, the order cannot tell
+-- if the table says no, the order makes no difference
 pub register_commutes : (p q : Op) → register_conflicts p q ≡ false → (v : ℤ) → IsNumber v → Commutes register_step register_return v p q
 register_commutes Read (Write w) e v ok = absurd (true≢false e)
 register_commutes (Write w) Read e v ok = absurd (true≢false e)
@@ -38,7 +38,7 @@ register_commutes (Write w) (Write u) e v ok =
     record { state = sym ((Decides-int_eq w u).0 (true_from_not (int_eq w u) e)); first = refl; second = refl }
 register_commutes _ _ e v ok = record { state = refl; first = refl; second = refl }
 
--- where it says yes, it does from some state
+-- if it says yes, the order makes a difference from some state
 pub register_differs : (p q : Op) → register_conflicts p q ≡ true → Conflict IsNumber register_step register_return p q
 register_differs Read (Write w) e =
     record { from = w +ℤ pos 1; is_state = tt; differs = λ c. apart w (ap number_in c.first) }
@@ -48,7 +48,7 @@ register_differs (Write w) (Write u) e =
     record { from = pos 0; is_state = tt; differs = λ c. true≢false (sym e ∙ ap not ((Decides-int_eq w u).1 (sym c.state))) }
 register_differs _ _ e = absurd (true≢false (sym e))
 
--- an operation that is none of registers conflicts with nothing
+-- an operation that does not belong to registers conflicts with nothing
 idle_right : (p q : Op) → is_register_op q ≡ false → register_conflicts p q ≡ false
 idle_right Read (Write w) e = absurd (true≢false e)
 idle_right (Write u) Read e = absurd (true≢false e)

@@ -1,4 +1,4 @@
--- The table of conflicts on sets is what conflict means.
+-- The table of conflicts on sets agrees with the definition of conflict.
 use Rattle.std.specs.Prelude.{◌≡◌, refl, Bool, true, false, cond, ◌||◌, not, ℤ, pos, List, [], ◌∷◌}
 use Rattle.std.proofs.Common.{sym, ap, subst, ◌∙◌}
 use Rattle.std.proofs.lemmas.Bool.{true≢false}
@@ -22,14 +22,14 @@ Differ p q = Conflict IsSet set_step set_return p q
 apart_back : (x y : ℤ) → int_eq x y ≡ false → int_eq y x ≡ false
 apart_back x y n = int_eq_equiv.symm y x ∙ n
 
--- an insertion or a removal tells a test of another element the same before and after
+-- an insertion or a removal does not change a test of another element
 reported_inserted : (f : Bool → Ret) (v : List ℤ) (x y : ℤ) → int_eq x y ≡ false → f (has (insert_key int_cmp v y) x) ≡ f (has v x)
 reported_inserted f v x y n = ap f (has_inserted_other v x y n)
 
 reported_removed : (f : Bool → Ret) (v : List ℤ) (x y : ℤ) → int_eq x y ≡ false → IsSet v → f (has (remove_key (int_eq y) v) x) ≡ f (has v x)
 reported_removed f v x y n s = ap f (has_removed_other v x y n s)
 
--- where the table says no, the order cannot tell
+-- if the table says no, the order makes no difference
 pub set_commutes : (p q : Op) → set_conflicts p q ≡ false → (v : List ℤ) → IsSet v → Commutes set_step set_return v p q
 set_commutes (Insert x) (Insert y) n v s = record {
   state = insert_insert v x y s;
@@ -150,7 +150,7 @@ has_remove_same x = record {
   differs = λ c. true≢false (sym (only x) ∙ ap answer_in c.first ∙ ap (λ v. has v x) (left x));
 }
 
--- the number of elements tells of an insertion and of a removal
+-- the number of elements reveals an insertion and a removal
 one_and_none : Value (pos 1) ≡ Value (pos 0) → ⊥
 one_and_none e = true≢false (ap is_some_number e)
 
@@ -173,7 +173,7 @@ remove_size x = record { from = x ∷ []; is_state = set_of_one x; differs = λ 
 at_same : (f g : ℤ → Op) (x y : ℤ) → ((z : ℤ) → Differ (f z) (g z)) → int_eq x y ≡ true → Differ (f x) (g y)
 at_same f g x y h e = subst (λ z. Differ (f x) (g z)) ((Decides-int_eq x y).0 e) (h x)
 
--- where the table says yes, the order can tell from some set
+-- if the table says yes, the order makes a difference from some set
 pub set_differs : (p q : Op) → set_conflicts p q ≡ true → Conflict IsSet set_step set_return p q
 set_differs (Insert x) (Insert y) e = at_same Insert Insert x y insert_insert_same e
 set_differs (Insert x) (Remove y) e = at_same Insert Remove x y insert_remove_same e
@@ -189,7 +189,7 @@ set_differs Size (Insert y) e = size_insert y
 set_differs Size (Remove y) e = size_remove y
 set_differs _ _ e = absurd (true≢false (sym e))
 
--- an operation that is none of sets conflicts with nothing
+-- an operation that does not belong to sets conflicts with nothing
 idle_right : (p q : Op) → is_set_op q ≡ false → set_conflicts p q ≡ false
 idle_right p (Insert y) e = absurd (true≢false e)
 idle_right p (Remove y) e = absurd (true≢false e)

@@ -1,5 +1,5 @@
--- Sets as strictly ascending lists: two with the same elements are one list, and what `insert_key`
--- and `remove_key` do is told by the elements.
+-- Sets as strictly ascending lists: sets with the same elements are equal, and the elements after `insert_key` and
+-- `remove_key`.
 use Rattle.std.proofs.Common.{◌≡◌, refl, sym, ap, subst, ◌∙◌, List, [], ◌∷◌, Bool, true, false, cond, not, ◌&&◌, ◌||◌}
 use Rattle.std.specs.Prelude.{ℤ}
 use Rattle.std.specs.declared.cmp.Ordering.{Ordering}
@@ -14,7 +14,7 @@ use Rattle.std.proofs.lemmas.Cmp.{int_cmp_total, int_eq_equiv}
 use Rattle.std.proofs.lemmas.Bool.Decides.{Decides-int_eq}
 use Rattle.acta_objects.specs.Conflicts.{IsSet}
 
--- whether the element is among them
+-- whether the element is in the list
 abbrev pub has : List ℤ → ℤ → Bool
 has xs q = is_member int_eq xs q
 
@@ -50,7 +50,7 @@ same_eq x = int_eq_equiv.refl x
 Less_from_Greater : (x y : ℤ) → int_cmp x y ≡ Greater → int_cmp y x ≡ Less
 Less_from_Greater x y e = int_cmp_total.antisymm y x ∙ ap ordering_reverse e
 
--- a number below them all is none of them
+-- a number below all elements is not among them
 pub lacks_below : (x : ℤ) (ys : List ℤ) → IsBelow x ys → has ys x ≡ false
 lacks_below x [] b = refl
 lacks_below x (y ∷ ys) b = ap (λ o. is_eq o || has ys x) b.0 ∙ lacks_below x ys b.1
@@ -78,7 +78,7 @@ others x xs ys bx by_ h q = at (int_eq q x) refl (h q)
         ap (has xs) same ∙ lacks_below x xs bx ∙ sym (lacks_below x ys by_) ∙ ap (has ys) (sym same)
     at false e g = g
 
--- two sets with the same elements are one list
+-- two sets with the same elements are equal
 pub same_sets : (xs ys : List ℤ) → IsSet xs → IsSet ys → ((q : ℤ) → has xs q ≡ has ys q) → xs ≡ ys
 same_sets [] [] sx sy h = refl
 same_sets [] (y ∷ ys) sx sy h = absurd (true≢false (sym (has_head y ys) ∙ sym (h y)))
@@ -168,7 +168,7 @@ below_remove z x (y ∷ ys) b = at (int_eq x y) (below_remove z x ys b.1)
     at true g = b.1
     at false g = (b.0, g)
 
--- a set stays one
+-- the list stays strictly ascending
 pub insert_is_set : (xs : List ℤ) (x : ℤ) → IsSet xs → IsSet (insert_key int_cmp xs x)
 insert_is_set [] x s = set_of_one x
 insert_is_set (y ∷ ys) x s = at (int_cmp x y) refl (insert_is_set ys x (tail_set y ys s))
@@ -188,7 +188,7 @@ remove_is_set (y ∷ ys) x s = at (int_eq x y) (remove_is_set ys x (tail_set y y
     at true g = tail_set y ys s
     at false g = set_cons y (remove_key (int_eq x) ys) (below_remove y x ys (head_below y ys s)) g
 
--- whether an element is present doesn't depend on another
+-- whether an element is present does not depend on another
 pub has_inserted_other : (xs : List ℤ) (x y : ℤ) → int_eq x y ≡ false → has (insert_key int_cmp xs y) x ≡ has xs x
 has_inserted_other xs x y n = has_insert xs y x ∙ ap (λ b. b || has xs x) n
 

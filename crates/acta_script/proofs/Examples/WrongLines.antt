@@ -49,7 +49,7 @@ good = refl
 misspelt : event (codes "bgin 1") ≡ found Word (Wrong 0) (Part Event)
 misspelt = refl
 
--- the first wrong number, and not the wrong name behind it
+-- the first wrong number, and not the wrong name after it
 first_number : event (codes "begin x nosuch") ≡ found Number (Wrong 1) (Part Transaction)
 first_number = refl
 
@@ -67,7 +67,7 @@ no_object = refl
 one_too_many : event (codes "begin x part part part") ≡ found Arity (Wrong 3) (EventForm Begin)
 one_too_many = refl
 
--- an unknown operation has the lower fault, whatever is behind it
+-- an unknown operation has the lower fault, whatever follows it
 unknown_operation : event (codes "do x y reed 1 2") ≡ found Word (Wrong 3) (Part Operation)
 unknown_operation = refl
 

@@ -1,4 +1,4 @@
--- What is read of a line that was written.
+-- Round trips: reading a written line.
 use Rattle.std.specs.Prelude.{◌≡◌, None, Ok}
 use Rattle.acta_table.specs.declared.event.Event.{Event}
 use Rattle.acta_table.specs.declared.event.Kept.{Kept}
@@ -11,7 +11,7 @@ use Rattle.acta_script.specs.Writing.{event_line, kept_line}
 abbrev pub NamesNothing : {A : Type 0} → Event A → Type 0
 NamesNothing event = (class_named event ≡ None) × (object_named event ≡ None)
 
--- the line of the event says the event, and so of a kept item
+-- reading the event's line gives the event, and likewise for a kept item
 abbrev pub IsReadAgain : {A : Type 0} → Parts A → Event A → Type 0
 IsReadAgain m event = event_of m (event_line m event) ≡ Ok event
 

@@ -1,4 +1,4 @@
--- The ranges of the numbers that an event or a return has, which their types give, and the order of its operations.
+-- The ranges of an event's or a return's numbers, and the order of its operations, as their types guarantee.
 use Rattle.std.specs.Prelude.{◌≡◌, ℕ, ◌≤◌, nat_le, true, Option, Some, None, IfSome, ℤ, pos, neg_ℤ, ◌≤ℤ◌, ◌<ℤ◌}
 use Rattle.std.specs.List.{AllByRecursion, list_all}
 use Rattle.std.specs.List.Sorted.{IsStrictlySortedBy}
@@ -16,7 +16,7 @@ use Rattle.acta_table.specs.Sets.{numbers_of}
 abbrev pub IsWithin : ℕ → ℤ → Type 0
 IsWithin bound z = (neg_ℤ (pos bound) ≤ℤ z) × (z <ℤ pos bound)
 
--- the number that an operation has
+-- the number of an operation, if it has one
 abbrev pub integer_of : Op → Option ℤ
 integer_of (Write v) = Some v
 integer_of (Add n) = Some n
@@ -25,7 +25,7 @@ integer_of (Remove x) = Some x
 integer_of (Has x) = Some x
 integer_of _ = None
 
--- the number of 32 bits that an event has
+-- the 32-bit number of an event, if it has one
 abbrev pub integer_named : {A : Type 0} → Event A → Option ℤ
 integer_named (Operate t ob op) = integer_of op
 integer_named _ = None
@@ -36,7 +36,7 @@ pub record HasRanges {A : Type 0} (event : Event A) : Type 0 where
   pub ascending : IsStrictlySortedBy nat_cmp (numbers_of (operations_named event))
   pub integer : IfSome (integer_named event) (IsWithin 0x8000_0000)
 
--- the number of 64 bits that a return has
+-- the 64-bit number of a return, if it has one
 abbrev pub value_of : Ret → Option ℤ
 value_of (Value v) = Some v
 value_of _ = None

@@ -21,12 +21,12 @@ has_ended (Read [] ∷ acts) = true
 has_ended (Read (b ∷ bs) ∷ acts) = has_ended acts
 has_ended (Shown bytes ∷ acts) = has_ended acts
 
--- no known byte is left
+-- if the bytes left are known, none is left at last
 abbrev pub IsUsedUp : Option (List ℕ) → Option (List ℕ) → Type 0
 IsUsedUp None last = ⊤
 IsUsedUp (Some xs) last = IsAtEnd last
 
--- what the acts did to the bytes that the reader has left and the writer holds, where those are known
+-- the effect of the acts on the bytes that the reader has left and that the writer holds, if those are known
 pub record IsSince (left held : Option (List ℕ)) (acts : List Act) (left_last held_last : Option (List ℕ)) : Type 0 where
   pub read : Consumes left left_last (bytes_read acts)
   pub shown : Appends held held_last (bytes_shown acts)

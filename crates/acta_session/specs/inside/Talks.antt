@@ -7,7 +7,7 @@ use Rattle.acta_session.specs.Shells.{ShellState}
 abbrev pub at_front : {A : Type 0} → ShellState A → Cut → Moment A
 at_front s c = record { session = s; due = c.lines; front = c.front; is_over = false }
 
--- from this moment on there were acts, each in turn, up to one with these
+-- acts since this moment, each in turn, after which the state is given
 pub record HasTalked {A C : Type 0} (shows : Shows A) (since : List Act → C → Type 0) (console : C) (old : Moment A)
     (session : ShellState A) (due : List (List ℕ)) (front : List ℕ) (is_over : Bool) : Type 0 where
   pub acts : List Act

@@ -10,11 +10,11 @@ use Rattle.acta_sets.specs.Permits.{has_grant}
 abbrev pub grant_lists : List (BTreeSet Grant) → List (List Grant)
 grant_lists table = map (λ s. s.keys) table
 
--- the grants at a place; none past the last
+-- the grants at a place; empty past the end
 abbrev pub grants_at : List (BTreeSet Grant) → ℕ → List Grant
 grants_at table at = get_or (grant_lists table) at []
 
--- whether the grant of this object with this partner stands at the place
+-- whether the grant of this object with this partner is at the place
 abbrev pub is_granted : List (BTreeSet Grant) → ℕ → ℕ → ℕ → Bool
 is_granted table at object partner = has_grant (grants_at table at) object partner
 
@@ -22,11 +22,11 @@ is_granted table at object partner = has_grant (grants_at table at) object partn
 abbrev pub partners_of : List Grant → List TxnId
 partners_of grants = map (λ g. g.partner) grants
 
--- the permits that these grants of a transaction are
+-- the permits that these grants of a transaction stand for
 abbrev pub permits_to : TxnId → List Grant → List Permit
 permits_to to grants = map (λ g. record { by = g.partner; to = to; object = g.object }) grants
 
--- whatever a transaction was permitted stands with the one that has permitted it too, whose number is a 16-bit one
+-- each permit received is recorded with its giver too, whose number fits 16 bits
 abbrev pub AreMirrored : List (BTreeSet Grant) → List (BTreeSet Grant) → Type 0
 AreMirrored taken given = record {
   back : (h t object : ℕ) → is_granted taken t object h ≡ true → is_granted given h object t ≡ true;

@@ -1,4 +1,4 @@
--- What is kept beside the operations.
+-- The invariant of the indexes.
 use Rattle.std.specs.Prelude.{◌≤◌, ℕ, List, length}
 use Rattle.std.specs.HashMap.{HashMap}
 use Rattle.smallvec.specs.SmallVec.{SmallVec}
@@ -11,8 +11,7 @@ use Rattle.acta_sets.specs.inside.Modes.{coarse, listed_fine}
 use Rattle.acta_sets.specs.declared.listing.ModeList.{ModeList}
 use Rattle.acta_sets.specs.inside.Listing.{AreListed, FrontsHold}
 
--- there are few enough, each transaction's list is its access set, those with one that is not empty are
--- among the holders, and each operation in progress is filed
+-- the indexes agree with the operations: held lists, holders, counts and mode lists
 abbrev pub IsIndexed : {A S : Type 0} → List HeldOp → List (SmallVec ℕ) → List ℕ → HashMap ModeKey ℕ S → HashMap ModeKey (ModeList A) S → HashMap ModeKey (ModeList A) S → Type 0
 IsIndexed items lists holders counts first second = record {
   few : length items ≤ MOST_EVENTS;

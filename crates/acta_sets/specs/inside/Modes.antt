@@ -1,4 +1,4 @@
--- The modes of operations, and what operations are filed under.
+-- The lock modes of operations, and mode keys.
 use Rattle.std.specs.Prelude.{Bool, true, false, ◌&&◌, ◌==◌, pos, Option, Some, None, if◌then◌else◌}
 use Rattle.std.specs.Ordering.{int_eq}
 use Rattle.acta_table.specs.declared.event.Op.{Op}
@@ -28,11 +28,11 @@ same_holder Anyone Anyone = true
 same_holder (Txn t) (Txn u) = t == u
 same_holder _ _ = false
 
--- whether two tags are the same
-abbrev pub same_tag : ModeKey → ModeKey → Bool
-same_tag k l = same_holder k.holder l.holder && (k.ob == l.ob) && same_mode k.mode l.mode
+-- whether two mode keys are the same
+abbrev pub same_key : ModeKey → ModeKey → Bool
+same_key k l = same_holder k.holder l.holder && (k.ob == l.ob) && same_mode k.mode l.mode
 
--- the coarse mode of an operation, if any: that of all of its sort
+-- the coarse mode of an operation, if any, which it shares with all of its sort
 abbrev pub coarse : Op → Option LockMode
 coarse Read = Some Reads
 coarse (Write v) = Some Writes
@@ -43,7 +43,7 @@ coarse (Remove x) = Some Changes
 coarse (Has x) = None
 coarse Size = Some Sizes
 
--- its fine mode, if any: that of those with its value
+-- its fine mode, if any, which depends on its value
 abbrev pub fine : Op → Option LockMode
 fine Read = None
 fine (Write v) = Some (WritesOf v)
@@ -54,7 +54,7 @@ fine (Remove x) = Some (ChangesOf x)
 fine (Has x) = Some (Tests x)
 fine Size = None
 
--- the fine mode that it is listed under, if any
+-- the fine mode under which it is listed, if any
 abbrev pub listed_fine : Op → Option LockMode
 listed_fine Read = None
 listed_fine (Write v) = None

@@ -106,8 +106,8 @@ fn takes<A: Handle>(
     made(rt, machine.take(event), "an event") == *answer
 }
 
-// How many of the entries were refused, where the entries are numbered from 1, and the machine answers each event as
-// its entry says.
+// The number of refused entries; `None` if the entries are not numbered from 1, or the machine answers an event otherwise
+// than its entry.
 fn replayed_on<A: Handle>(
     rt: &impl Abort,
     machine: &mut Machine<A>,

@@ -85,7 +85,7 @@ fn is_full<A: Handle>(driven: &Driven<A>, scripts: &[Script<A>]) -> bool {
     entries.len() == 65_536 && are_parts(entries, scripts, driven.reports.as_slice())
 }
 
-// That some entries were refused and some were not.
+// Asserts that some entries were refused and some were not.
 fn are_some(rt: &impl Abort, refused: u32) {
     assert!(rt;
         8_192 < refused && refused < 65_536,

@@ -11,7 +11,7 @@ use std::process::Abort;
 use std::sync::Wait;
 use std::thread::Threads;
 
-/// Events, of which some are admitted and some are refused.
+/// Events, some of which are admitted and some refused.
 pub const CALLS: &str = "\
 begin 1 flat
 begin 1 flat
@@ -41,7 +41,7 @@ ok 7
 no 7 by 2
 ";
 
-/// What the worker at the desk reports.
+/// The report of the worker at the desk.
 pub fn reported<A: Handle>(
     alloc: A,
     desk: &mut PlainDesk<A>,

@@ -46,7 +46,7 @@ fn are_barred<A: Handle + Send + Sync, R: Threads + Wait + Sync + Abort>(
     same(rt, &found, &Some(why), "barred scripts");
 }
 
-// Where the gate is false at these places, the run gives up at the seat.
+// If the gate returns false at these places, the run gives up at the seat.
 fn gives_up<A: Handle + Send + Sync, R: Threads + Wait + Sync + Abort>(
     rt: &R,
     alloc: A,

@@ -1,4 +1,4 @@
-//! A full book: it has 65,536 entries, of which none needs to be admitted, and takes no more.
+//! A full book: it has 65,536 entries, whether admitted or not, and takes no more.
 
 use crate::driving::books::taken;
 use crate::expecting::{holds, made, same};
@@ -9,7 +9,7 @@ use acta_models::Standard;
 use acta_table::{Answer, Event, Rule, TxnId};
 use std::process::Abort;
 
-// Whether it says that the transaction has not begun.
+// Whether the answer is that the transaction has not begun.
 fn is_due(answer: &Answer) -> bool {
     *answer
         == Answer::Refused {
@@ -18,7 +18,7 @@ fn is_due(answer: &Answer) -> bool {
         }
 }
 
-// Commits a transaction that has not begun, and says whether it is refused for that, under this number.
+// Commits a transaction that has not begun, and returns whether that is why it is refused, with this number.
 fn is_refused<A: Handle>(rt: &impl Abort, book: &mut Book<A>, number: u32) -> bool {
     let entry = made(rt, taken(book, Event::Commit(TxnId(1))), "a call");
     let is_so = entry.number == number && entry.seat == 1 && is_due(&entry.answer);

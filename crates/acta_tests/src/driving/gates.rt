@@ -9,7 +9,7 @@ use std::thread;
 // How often a worker looks for the other, before it gives up.
 const TURNS: u32 = 10_000_000;
 
-// Raises a flag, and waits for the other; false where it is not raised in time.
+// Raises a flag, and waits for the other; returns false if that is not raised in time.
 fn meet(mine: &AtomicU64, other: &AtomicU64) -> bool {
     mine.store(1, Ordering::SeqCst);
     for _ in 0..TURNS {
@@ -21,7 +21,7 @@ fn meet(mine: &AtomicU64, other: &AtomicU64) -> bool {
     false
 }
 
-/// Where two workers meet.
+/// A gate at which two workers meet.
 #[derive(Clone, Copy, PartialEq, Eq)]
 pub enum Place {
     /// Before their second calls.
@@ -97,7 +97,7 @@ impl<'a, R: Wait, A: Allocator + Copy> Gate<Entry<A>> for Meeting<'a, R, A> {
     fn judged<B: Allocator>(&self, _turn: u8, _front: &Front<B>) {}
 }
 
-/// Where a gate is asked: before a call of a seat, or after it.
+/// A call of the gate: before or after a call of a seat.
 #[derive(Clone, Copy, PartialEq, Eq)]
 pub struct Pass {
     pub seat: u8,

@@ -1,4 +1,4 @@
-//! Two workers who meet: both are in the midst of their scripts at once, and the book has the calls of both.
+//! Two workers meet: both are in the middle of their scripts at once, and the book has the calls of both.
 
 use crate::driving::books::{are_answered, are_parts};
 use crate::driving::gates::{Meeting, Place};
@@ -59,7 +59,7 @@ fn add_both<A: Handle + Send + Sync, R: Threads + Wait + Sync + Abort>(rt: &R, a
     drop(driven);
 }
 
-// The seat of the first of two writes, where the other is of the other seat.
+// The seat of the first of two writes, if the second is of the other seat.
 fn first_writer<A: Allocator>(entries: &[Entry<A>]) -> Option<u8> {
     if entries.len() != 4 {
         return None;

@@ -15,7 +15,7 @@ use std::thread::Threads;
 /// Two scripts: seat 1 adds to n and seat 2 to m.
 pub const ADDITIONS: [&str; 2] = ["begin 1 flat\ndo 1 n add 5", "begin 2 flat\ndo 2 m add 7"];
 
-/// The script that the text says, in the words of the model.
+/// The script of the text, parsed on the model.
 pub fn script<A: Allocator + Copy>(
     rt: &impl Abort,
     alloc: A,

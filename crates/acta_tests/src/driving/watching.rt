@@ -45,7 +45,7 @@ impl Interleaved {
         }
     }
 
-    // Waits for the flag; where that runs out, it is said.
+    // Waits for the flag. If that takes too long, raises `late`.
     fn wait_for(&self, flag: &AtomicU64) -> bool {
         for _ in 0..TURNS {
             if is_up(flag) {
@@ -133,7 +133,7 @@ fn a_front_in_the_midst_of_two_scripts(rt: HostRuntime) {
     watch_two(&rt, rt.alloc());
 }
 
-// Without a turn there is no front; and what blocks a drive blocks one that is watched.
+// With 0 turns there is no front; and the errors of a drive are also those of a watched one.
 fn watch_none<A: Handle + Send + Sync, R: Threads + Wait + Sync + Abort>(rt: &R, alloc: A) {
     let scripts = scripts(rt, alloc, &ADDITIONS);
     let watched = made(

@@ -1,4 +1,4 @@
-//! Seats that wait for one another at ends of programs.
+//! Seats that wait for each other at ends of programs.
 
 use crate::expecting::{expect_text, made};
 use crate::exploring::{FOUR, programs_of};
@@ -9,7 +9,7 @@ use acta_models::Standard;
 use std::alloc::{Allocator, Global};
 use std::process::Abort;
 
-// The seats, each behind a space.
+// The seats, each after a space.
 fn put_seats<A: Allocator>(rt: &impl Abort, other: Global, seats: &[u8], text: &mut String<A>) {
     for seat in seats {
         let word = made(rt, format!(in other; " {seat}"), "a seat");
@@ -17,7 +17,7 @@ fn put_seats<A: Allocator>(rt: &impl Abort, other: Global, seats: &[u8], text: &
     }
 }
 
-// The circle that is found from the seat at each end of the programs; a dash where there is none.
+// The cycle found from the seat at each end of the programs; a dash if there is none.
 fn circles<A: Handle>(
     rt: &impl Abort,
     (alloc, other): (A, Global),
@@ -55,7 +55,7 @@ const CROSSED: &str = "\
 2 do 2 x1 write 8
 2 commit 2";
 
-// Each of two writes first what the other writes next.
+// Two seats write the same two objects in opposite orders.
 #[test]
 fn two_that_cross(rt: HostRuntime) {
     for (seat, due) in [

@@ -14,7 +14,7 @@ use std::process::Abort;
 // More runs than any programs here lead to.
 const MOST_RUNS: u32 = 1_000_000;
 
-/// An outcome, as text, and the first order of those that reach it.
+/// An outcome, as text, and the first order that reaches it.
 #[derive(Drop)]
 pub struct End<A: Allocator> {
     pub rendered: String,
@@ -28,7 +28,7 @@ struct Run<A: Handle> {
     machine: Machine<A>,
 }
 
-// What an admitted event returned.
+// The return of an admitted event.
 fn return_of(rt: &impl Abort, answer: Answer) -> Option<Ret> {
     match answer {
         Answer::Admitted { ret, .. } => ret,
@@ -82,12 +82,12 @@ fn put_steps<A: Handle>(
     open.len().wrapping_sub(before)
 }
 
-// What orders are compared by: whose step it is, and by which alternative.
+// The sort key of an order's steps: the seat, then the alternative.
 fn turn_of(step: &Step) -> (u8, usize) {
     (step.seat, step.alternative)
 }
 
-/// Whether an order comes before another: it is shorter, or has the lower turn where the two first differ.
+/// Whether an order comes before another: it is shorter, or has the lower turn at their first difference.
 pub fn is_earlier(steps: &[Step], others: &[Step]) -> bool {
     if steps.len() != others.len() {
         return steps.len() < others.len();

@@ -1,4 +1,4 @@
-//! Outcomes as text: one that a search answers, and what a machine answers after some steps.
+//! Outcomes as text: those of a search, and those of a machine after some steps.
 
 use crate::calls::{owed_by, why};
 use crate::expecting::made;
@@ -54,7 +54,7 @@ fn has_do<A: Allocator>(programs: &[ProgramLine<A>], line: usize) -> bool {
     false
 }
 
-// The line that has this number among those with a `do`.
+// The line with this number among those with a `do`.
 fn line_named<A: Allocator>(programs: &[ProgramLine<A>], op: OpNo) -> Option<usize> {
     let mut count = 0u32;
     for line in 0..programs.len() {
@@ -68,7 +68,7 @@ fn line_named<A: Allocator>(programs: &[ProgramLine<A>], op: OpNo) -> Option<usi
     None
 }
 
-// The machine's number of the operation to which the programs give this number; 0 where it was not done.
+// The machine's number of the operation with this number in the programs; 0 if it was not done.
 fn number_now<A: Allocator>(programs: &[ProgramLine<A>], steps: &[Step], op: OpNo) -> OpNo {
     let (named, mut count) = (line_named(programs, op), 0u32);
     for step in steps {
@@ -119,19 +119,19 @@ pub fn event_now<A: Allocator + Copy>(
     }
 }
 
-// Adds a debt: the code of its kind, who owes, to whom, and what.
+// Adds a debt: the code of its kind, the owing transaction, the other one, and the event.
 fn put_debt(rt: &impl Abort, text: &mut String, debt: (u8, u16, u16), missing: Missing) {
     put(rt, text, &debt);
     put(rt, text, &missing);
 }
 
-// The edge by which something is owed.
+// The edge of a debt.
 fn edge_of(rt: &impl Abort, edges: &[Edge], owed: &Owed) -> Edge {
     let place = (owed.edge.0 as usize).wrapping_sub(1);
     *edges.get(place).expect(rt, "an edge")
 }
 
-// Adds what is owed: each debt once, in order.
+// Adds the debts, each once, in order.
 fn put_debts<A: Handle>(rt: &impl Abort, other: Global, text: &mut String, machine: &Machine<A>) {
     let owed = made(rt, owed_by(machine), "debts");
     let mut debts = BTreeSet::new(other);
@@ -151,7 +151,7 @@ fn put_debts<A: Handle>(rt: &impl Abort, other: Global, text: &mut String, machi
     }
 }
 
-// Adds where the seat waits, if it does.
+// Adds the line at which the seat waits, if it does.
 fn put_wait<A: Handle>(
     rt: &impl Abort,
     alloc: A,

@@ -22,7 +22,7 @@ pub fn by_model() -> [(&'static str, &'static str); 7] {
     ]
 }
 
-/// The lists that break two axioms, of which one is by edges.
+/// The lists that break two axioms, one of them by edges.
 pub fn with_two() -> [(&'static str, &'static str); 2] {
     [
         (Standard::Contingent.text(), CLASHING),

@@ -1,5 +1,5 @@
-//! Random histories in which transactions permit, hand over, spawn and depend: what a machine keeps of them has no fault,
-//! and owes what the machine owes.
+//! Random histories in which transactions permit, delegate, spawn and depend: the verdict on a machine's history has no
+//! fault, and the machine's debts.
 
 use crate::calls::{new_machine, take};
 use crate::expecting::made;
@@ -13,7 +13,7 @@ use std::alloc::{Allocator, Global};
 use std::process::Abort;
 use std::thread::Threads;
 
-// What a transaction does. Its number stands for T, and that of another for U.
+// The moves of a transaction. T stands for its number, and U for that of another.
 const SHARED: &str = "\
 begin T part
 begin T part
@@ -69,7 +69,7 @@ abort T";
 
 const HISTORIES: u32 = 40;
 
-// How many events are drawn for a history after its starts.
+// How many events are drawn for a history after its begins.
 const EVENTS: u32 = 24;
 
 // How many transactions begin before all else.
@@ -86,7 +86,7 @@ pub fn lines_in(text: &str) -> u32 {
     count
 }
 
-/// The line after so many others.
+/// The line after the first `others`.
 pub fn line_after<'a>(rt: &impl Abort, text: &'a str, others: u32) -> &'a str {
     let mut count = 0u32;
     for line in text.lines() {
@@ -103,7 +103,7 @@ fn txn_drawn(words: &mut Pcg32) -> u32 {
     words.next_word() % TRANSACTIONS + 1
 }
 
-/// The line with these numbers in the place of the T and of the U.
+/// The line with these numbers in place of T and U.
 pub fn filled<A: Allocator + Copy>(
     rt: &impl Abort,
     alloc: A,

@@ -67,7 +67,7 @@ impl<'a, 's, R: Abort, A: Handle> Case for Taking<'a, 's, R, A> {
     }
 }
 
-// Calls of a book, of which the third is refused.
+// Calls of a book, the third of which is refused.
 const TAKEN: &str = "\
 begin 1 part
 begin 2 part
@@ -153,7 +153,7 @@ struct Working<'a, 's, R, A: Handle> {
 }
 
 impl<'a, 's, R: Abort, A: Handle> Working<'a, 's, R, A> {
-    // Whether the entries are the first of the script's, and the machine is what their events leave.
+    // Whether the entries are the first of the script's, and the machine is the one after their events.
     fn is_kept(&self, book: &Book<A>) -> bool {
         let (rt, alloc, other) = (self.on.rt, self.on.alloc, self.on.other);
         let events = self.script.as_slice();
@@ -251,7 +251,7 @@ begin 2 try
 do 2 s insert 4
 commit 1";
 
-// The lines of the verdict on a book. Nothing where memory ran out.
+// The lines of the verdict on a book. `None` if memory ran out.
 fn verdict_on<A: Handle + Send + Sync>(
     rt: &(impl Threads + Sync + Abort),
     other: Global,
@@ -300,7 +300,7 @@ fn unless_short<T>(rt: &impl Abort, driven: Result<T, DriveError>) -> Option<T> 
     }
 }
 
-// How many entries and fronts a drive of the scripts has that is watched so often. Nothing where memory ran out.
+// The numbers of entries and fronts of a drive of the scripts that is watched this often. `None` if memory ran out.
 fn driven<A: Handle + Send + Sync, R: Threads + Wait + Sync + Abort>(
     rt: &R,
     (alloc, other): (A, Global),

@@ -86,7 +86,7 @@ fn refuse_commands<R: Abort, A: Handle, B: Allocator>(
     refused
 }
 
-// Checkpoints stand 64 events apart.
+// Checkpoints are 64 events apart.
 const NEAR: &str = "\
 goto 65 -- at 65, n = 59
 back -- at 64, n = 58
@@ -110,7 +110,7 @@ run -- Broke { number: 1, place: 4 } at 4, n = 0
 run -- Broke { number: 1, place: 5 } at 5, n = 0
 run -- Finished at 130, n = 124";
 
-// Checkpoints stand 128 events apart, so that the first move back brings one near.
+// Checkpoints are 128 events apart, so that the first move back brings one near.
 const FAR: &str = "\
 goto 2505 -- at 2505, n = 2499
 back -- at 2504, n = 2498
@@ -142,7 +142,7 @@ fn commands_to_debuggers(rt: HostRuntime) {
     refuse_all_commands(&on, &heap);
 }
 
-// What a new debugger is made of.
+// The parts of a new debugger.
 #[derive(Drop)]
 struct Parts<A: Handle> {
     model: Model<A>,
@@ -150,7 +150,7 @@ struct Parts<A: Handle> {
     events: Vec<Event<A>, A>,
 }
 
-// A new debugger on the kept items of the lines; or, where these are events, on what a machine keeps of them.
+// A new debugger on the kept items of the lines; or, if these are events, on a machine's history of them.
 #[derive(Drop)]
 struct Opening<'a, 's, R, A: Handle> {
     on: &'a Setting<'s, R, A>,

@@ -40,7 +40,7 @@ const TD_OF_1: Edge = Edge {
     i: TxnId(3),
 };
 
-// Forms three edges, where there is room for them. Returns how many are new.
+// Forms three edges, if there is room for them. Returns how many are new.
 fn form_three<A: Handle>(deps: &mut Deps<A>) -> Result<usize, AllocError> {
     let edges = [CD_OF_2, CD_OF_4, CD_OF_5];
     let lacking = deps.lacks(&edges);
@@ -51,7 +51,7 @@ fn form_three<A: Handle>(deps: &mut Deps<A>) -> Result<usize, AllocError> {
     }
 }
 
-// Forms the first of these and two more, of which one is named twice. Returns how many are new.
+// Forms the first of these and two more, one of which is named twice. Returns how many are new.
 fn form_more<A: Handle>(deps: &mut Deps<A>) -> Result<usize, AllocError> {
     let edges = [TD_OF_3, CD_OF_2, TD_OF_1, TD_OF_3];
     let lacking = deps.lacks(&edges);
@@ -62,7 +62,7 @@ fn form_more<A: Handle>(deps: &mut Deps<A>) -> Result<usize, AllocError> {
     }
 }
 
-// The transaction starts, where it may.
+// The transaction starts, if it may.
 fn start<A: Handle>(deps: &mut Deps<A>, t: TxnId) -> Result<(), AllocError> {
     if t.0 == 0 || LAST_TXN < t.0 {
         return Ok(());

@@ -15,7 +15,7 @@ use std::alloc::{Allocator, Global};
 use std::process::Abort;
 use std::thread::Threads;
 
-// The verdict on a list that is not too long, which is judged whole or in so many parts. Nothing where memory ran out.
+// The verdict on a list that is not too long, judged whole or in this many parts. `None` if memory ran out.
 fn verdict_on<A: Handle + Send + Sync>(
     rt: &(impl Threads + Sync),
     alloc: A,

@@ -1,4 +1,4 @@
-//! Events that machines take, and what machines and models are asked, each allocation refused in turn.
+//! Events that machines take, and questions to machines and models, each allocation refused in turn.
 
 use crate::calls::{
     copy_of, new_machine, owed_by, permits_of, places_of, run_on, serial_of, take, waits_for_cycle,
@@ -156,7 +156,7 @@ spawn 1 2 sub -- ok 2
 do 2 x write 5 -- ok 3 done
 commit 2 -- ok 4";
 
-// An operation that forms two edges, which are taken back where the operation finds no memory.
+// An operation that forms two edges, which are taken back if memory runs out for the operation.
 const DEPENDING: &str = "\
 begin 1 loose -- ok 1
 begin 2 loose -- ok 2
@@ -228,7 +228,7 @@ fn events_that_machines_take(rt: HostRuntime) {
     refuse_all_events(&on, &heap);
 }
 
-// What a machine is asked.
+// Questions to a machine.
 #[derive(Drop)]
 struct Asking<'a, 's, R, A: Handle> {
     on: &'a Setting<'s, R, A>,
@@ -316,7 +316,7 @@ fn put_cycle<A: Handle>(
     Ok(())
 }
 
-// Adds where transaction 1 starts, by the places of the history.
+// Adds the place where transaction 1 starts, by the places of the history.
 fn put_start<A: Handle>(
     rt: &impl Abort,
     alloc: A,
@@ -339,7 +339,7 @@ fn put_classes<A: Handle>(
     Ok(())
 }
 
-// Adds what the machine, or its history, answers.
+// Adds the answer of the machine, or of its history.
 fn put_answer<A: Handle>(
     rt: &impl Abort,
     alloc: A,
@@ -400,7 +400,7 @@ begin 5 top
 spawn 5 6 sub
 abort 5";
 
-// What is asked after these, and the answers.
+// Later questions, and their answers.
 const ANSWERS: &str = "\
 access set -- [OpNo(1)]
 conflict set of a top -- [OpNo(1)]
@@ -480,7 +480,7 @@ impl<'a, 's, R: Abort, A: Handle> Case for Making<'a, 's, R, A> {
     }
 }
 
-// What a machine is asked, each allocation refused. Returns how many were.
+// Questions to a machine, each allocation refused. Returns how many were.
 fn refuse_answer<'a, 's, R: Abort, A: Handle, B: Allocator>(
     on: &'a Setting<'s, R, A>,
     heap: &Refusing<B>,
@@ -501,7 +501,7 @@ fn refuse_answer<'a, 's, R: Abort, A: Handle, B: Allocator>(
     }
 }
 
-// Asks a machine what the lines say, each allocation refused. Returns how many were.
+// Asks a machine the questions of the lines, each allocation refused. Returns how many were.
 fn refuse_answers<R: Abort, A: Handle, B: Allocator>(
     on: &Setting<'_, R, A>,
     heap: &Refusing<B>,
@@ -520,7 +520,7 @@ fn refuse_answers<R: Abort, A: Handle, B: Allocator>(
     refused
 }
 
-// Four events, of which the last is a permit or is not.
+// Four events, the last of which may be a permit.
 const WITHOUT: &str = "begin 1 flat\nbegin 2 flat\ndo 1 x write 5\nbegin 3 flat";
 
 const WITH: &str = "begin 1 flat\nbegin 2 flat\ndo 1 x write 5\npermit 1 2 x";

@@ -101,7 +101,7 @@ impl<'a, 's, R: Abort, A: Handle> Case for Changing<'a, 's, R, A> {
     }
 }
 
-// What permits are asked.
+// Questions to permits.
 #[derive(Drop)]
 struct Asking<'a, 's, R, A: Handle> {
     changing: Changing<'a, 's, R, A>,
@@ -185,7 +185,7 @@ fn refuse_change<'a, 's, R: Abort, A: Handle, B: Allocator>(
     refuse(on.rt, heap, &Changing { on, before, change }, due)
 }
 
-// What permits are asked after some changes, each allocation refused. Returns how many were.
+// Questions to permits after some changes, each allocation refused. Returns how many were.
 fn refuse_answer<'a, 's, R: Abort, A: Handle, B: Allocator>(
     on: &'a Setting<'s, R, A>,
     heap: &Refusing<B>,

@@ -32,7 +32,7 @@ fn holds_all<A: Handle>(table: &OpTable<A>, t: TxnId, ops: &OpSet<A>) -> bool
     ops.as_slice().iter().all(|op| holds_one(table, t, *op))
 }
 
-// Adds an operation, where there is room.
+// Adds an operation, if there is room.
 fn add<A: Handle>(table: &mut OpTable<A>, t: TxnId, ob: ObjId, op: Op) -> Result<(), AllocError> {
     if table.operations().len() < MOST_EVENTS {
         table.add(t, ob, op)?;
@@ -40,7 +40,7 @@ fn add<A: Handle>(table: &mut OpTable<A>, t: TxnId, ob: ObjId, op: Op) -> Result
     Ok(())
 }
 
-// Moves the named operations, where the transaction that hands them over holds them all.
+// Transfers the named operations, if the transaction holds them all.
 fn move_to<A: Handle>(
     table: &mut OpTable<A>,
     from: TxnId,
@@ -161,7 +161,7 @@ commit 2 -- 2c 2c 2c 2c 4a
 do 2 x write 1 -- 2c 2c 2c 2c 4a 2
 join 2 5 -- 2c 2c 2c 2c 4a 5";
 
-// The list of what a transaction holds has room for eight inside, so that the ninth operation allocates.
+// The list of a transaction's operations has room for eight inline, so that the ninth operation allocates.
 const MANY: &str = "\
 do 1 n add 1 -- 1
 do 1 n add 1 -- 1 1

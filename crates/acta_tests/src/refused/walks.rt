@@ -1,4 +1,4 @@
-//! Steps of walks and what walks are asked, each allocation refused in turn.
+//! Steps of walks and questions to walks, each allocation refused in turn.
 
 use crate::calls::walk_of;
 use crate::expecting::made;
@@ -69,7 +69,7 @@ fn refuse_step<'a, 's, R: Abort, A: Handle, B: Allocator>(
     refuse(on.rt, heap, &Stepping { on, model, kept }, due)
 }
 
-// What a walk answers that has taken all items of the list.
+// The answers of a walk that has taken all items of the list.
 fn at_end<R: Abort, A: Handle>(
     on: &Setting<'_, R, A>,
     model: &Model<A>,
@@ -169,7 +169,7 @@ fn steps_of_walks(rt: HostRuntime) {
     refuse_all_steps(&on, &heap);
 }
 
-// What a walk to the end of a list is asked.
+// Questions to a walk to the end of a list.
 #[derive(Drop)]
 struct Asking<'a, 's, R, A: Handle> {
     on: &'a Setting<'s, R, A>,
@@ -309,7 +309,7 @@ value -- 3
 no value --
 return -- Some(Value(10))";
 
-// What a walk is asked, each allocation refused. Returns how many were.
+// Questions to a walk, each allocation refused. Returns how many were.
 fn refuse_answer<'a, 's, R: Abort, A: Handle, B: Allocator>(
     on: &'a Setting<'s, R, A>,
     heap: &Refusing<B>,

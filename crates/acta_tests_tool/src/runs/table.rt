@@ -1,5 +1,4 @@
-//! The cases of which each allocation is refused, in the format of `cases/README.md`: a good and a faulty run of each
-//! command.
+//! The cases whose allocations are refused, in the format of `cases/README.md`: a good and a faulty run of each command.
 
 /// Answers to events.
 pub const RUNS: &str = "\

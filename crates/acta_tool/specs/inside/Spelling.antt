@@ -1,4 +1,4 @@
--- A command line as the program holds it, and the faults that it makes of it.
+-- A command line as the program holds it, and its faults.
 use Rattle.std.specs.Prelude.{◌≡◌, ⊤, option_map}
 use Rattle.clap.specs.Words.{kind_of}
 use Rattle.clap.specs.declared.error.ErrorKind.TheVariants.{MissingSubcommand}
@@ -7,7 +7,7 @@ use Rattle.acta_args.specs.declared.fault.UsageFault.{UsageFault}
 use Rattle.acta_args.specs.declared.fault.UsageFault.TheVariants.{Usage, UnknownModel, NotText, Memory}
 use Rattle.acta_tool.specs.CommandLines.{Named}
 
--- the texts behind its references
+-- the command line with texts in place of references
 abbrev pub named_of : Spelled → Named
 named_of s = record {
   command = s.command.now;
@@ -17,7 +17,7 @@ named_of s = record {
   model = s.model.now;
 }
 
--- a fault that says that the command is missing, or want of memory
+-- the fault is that the command is missing, or lack of memory
 abbrev pub IsMissing : UsageFault → Type 0
 IsMissing (Usage e) = kind_of e ≡ MissingSubcommand
 IsMissing (Memory e) = ⊤

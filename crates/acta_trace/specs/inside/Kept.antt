@@ -1,4 +1,4 @@
--- What a list of steps keeps beside the steps, so that they are found by number.
+-- The index that a list of steps keeps.
 use Rattle.std.specs.Prelude.{◌≡◌, ◌<◌, ◌≤◌, ℕ, List, Option, None, IfSome, get_or, length, option_map}
 use Rattle.acta_table.specs.declared.event.Event.{Event}
 use Rattle.acta_table.specs.Events.{started}

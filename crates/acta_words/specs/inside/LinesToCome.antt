@@ -1,4 +1,4 @@
--- The lines that are still to come of a text.
+-- The lines that an iterator has not yet returned.
 use Rattle.std.specs.Prelude.{ℕ, List, []}
 use Rattle.std.specs.Option.{option_map_or}
 use Rattle.acta_words.specs.declared.lines.Lines.{Lines}

@@ -1,4 +1,4 @@
--- The spans of words, one after the other.
+-- The spans of successive words.
 use Rattle.std.specs.Prelude.{◌≡◌, ℕ, ◌<◌, ◌≤◌, ◌==◌, not, List, ◌∷◌, ◌++◌, filter, length, take, drop, slice_range}
 use Rattle.std.specs.List.{slice_split}
 use Rattle.acta_words.specs.declared.spans.Span.{Span}
@@ -8,11 +8,11 @@ use Rattle.acta_words.specs.Text.{is_blank}
 abbrev pub words_between : List ℕ → List (List ℕ)
 words_between bytes = filter (λ word. not (length word == 0)) (slice_split is_blank bytes)
 
--- whether no word reaches across this place
+-- no word crosses this position
 abbrev pub IsCut : List ℕ → ℕ → Type 0
 IsCut bytes at = words_between bytes ≡ words_between (take at bytes) ++ words_between (drop at bytes)
 
--- the span is that of the first word from this byte on
+-- the span of the first word at or after position `at`
 pub record IsNextSpan (bytes : List ℕ) (at : ℕ) (span : Span) : Type 0 where
   pub before : words_between (take span.from bytes) ≡ words_between (take at bytes)
   pub word : words_between (drop at bytes) ≡ slice_range bytes span.from span.to ∷ words_between (drop span.to bytes)

@@ -5,7 +5,7 @@ use Rattle.acta_values.specs.Stores.{Stored}
 use Rattle.acta_axioms.proofs.Following.{split-on, delegate-on, join-on, heir-on, commit-on, abort-on, operate-on, other-on, further_on}
 use Rattle.acta_axioms.proofs.taking.follow.Goals as goal
 
--- a store with these operations is the one with those
+-- stores with equal operations are equal
 with_items : (s : Stored) {items others : List HeldOp} → items ≡ others → record s { items = items } ≡ record s { items = others }
 with_items s e = λ i. record s { items = e i }
 

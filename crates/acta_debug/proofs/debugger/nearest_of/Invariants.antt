@@ -3,7 +3,7 @@ use Rattle.std.specs.Prelude.{IfSome}
 use Rattle.acta_machine.specs.Table.{State}
 use Rattle.acta_debug.proofs.debugger.nearest_of.Given as goal
 
--- what is found so far has kept few enough
+-- the machine found so far has kept few enough events
 abbrev pub invariant-loop-k : goal.invariant-loop-k
 invariant-loop-k g l =
     record {

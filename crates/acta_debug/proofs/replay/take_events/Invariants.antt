@@ -4,7 +4,7 @@ use Rattle.acta_machine.specs.Table.{after_all}
 use Rattle.acta_debug.specs.Histories.{events_in}
 use Rattle.acta_debug.proofs.replay.take_events.Given as goal
 
--- by the events that are left the machine goes on to the same end
+-- the remaining events lead to the same final machine
 abbrev pub invariant-loop-item : goal.invariant-loop-item
 invariant-loop-item g l =
     record {

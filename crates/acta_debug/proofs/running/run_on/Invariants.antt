@@ -6,7 +6,7 @@ use Rattle.acta_debug.specs.inside.Shown.{session_of}
 use Rattle.acta_debug.proofs.Replaying.{with_kept}
 use Rattle.acta_debug.proofs.running.run_on.Given as goal
 
--- the machine has kept the items so far, and of the places up to there no break holds
+-- the machine has kept the items so far, and no break holds at their places
 abbrev pub invariant-loop-k : goal.invariant-loop-k
 invariant-loop-k g l =
     let session = session_of l.fn.machine l.history l.at l.breaks in

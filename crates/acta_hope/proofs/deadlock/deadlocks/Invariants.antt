@@ -2,6 +2,6 @@ use Rattle.std.specs.List.{All}
 use Rattle.acta_hope.specs.Deadlocks.{IsCircle}
 use Rattle.acta_hope.proofs.deadlock.deadlocks.Given as goal
 
--- those found so far are circles
+-- the deadlocks found so far are cycles
 abbrev pub invariant-loop-start : goal.invariant-loop-start
 invariant-loop-start g l = All (IsCircle l.waits) l.circles.items

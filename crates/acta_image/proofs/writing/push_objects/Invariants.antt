@@ -3,7 +3,7 @@ use Rattle.std.specs.List.{flat_map}
 use Rattle.acta_image.specs.Spelling.{object_bytes}
 use Rattle.acta_image.proofs.writing.push_objects.Given as goal
 
--- with those that are left it is all
+-- with the rest, it is all
 abbrev pub invariant-loop-object : goal.invariant-loop-object
 invariant-loop-object g l =
     l.image.items ++ flat_map object_bytes (drop l.object-index l.objects) ≡ l.initial.image.items ++ flat_map object_bytes l.objects

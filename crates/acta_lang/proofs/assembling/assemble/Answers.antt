@@ -5,7 +5,7 @@ use Rattle.acta_lang.specs.inside.Abstraction.{abstraction}
 use Rattle.acta_lang.proofs.Sound.{is_sound}
 use Rattle.acta_lang.proofs.assembling.assemble.Goals as goal
 
--- what a text means has no fault
+-- a model from a text has no fault
 pub unreachable-requires : goal.unreachable-requires
 unreachable-requires g c =
     let none = ap lowest_fault c.in_ok-parts.ensures ∙ is_sound c.args.text.now (parts_of (abstraction c.in_ok-draft.draft)) c.in_ok-draft.ensures.ok in

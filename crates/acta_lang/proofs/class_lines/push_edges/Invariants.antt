@@ -3,7 +3,7 @@ use Rattle.acta_lang.specs.Canonical.{edge_words}
 use Rattle.acta_lang.specs.inside.Written.{written}
 use Rattle.acta_lang.proofs.class_lines.push_edges.Given as goal
 
--- with those that are left it is all
+-- with the rest, it is all
 abbrev pub invariant-loop-edge : goal.invariant-loop-edge
 invariant-loop-edge g l =
     l.text.items ++ written (map (edge_words l.at) (drop l.edge-index l.edges)) ≡ l.initial.text.items ++ written (map (edge_words l.at) l.edges)

@@ -5,7 +5,7 @@ use Rattle.acta_lang.specs.Diagnostics.{IsWhole, diagnostic_in, fault_of, report
 use Rattle.acta_lang.specs.Drafts.{Draft, OpenClass, extended_by}
 use Rattle.acta_lang.specs.Faults.{code_at}
 use Rattle.acta_lang.specs.Forms.{form_of}
-use Rattle.acta_lang.specs.inside.Noted.{IsNoted, IsSaid, Noted, diagnosis, noted, noted_by}
+use Rattle.acta_lang.specs.inside.Noted.{IsNoted, IsParsed, Noted, diagnosis, noted, noted_by}
 use Rattle.acta_lang.specs.inside.Abstraction.{abstraction}
 use Rattle.acta_lang.proofs.Diagnosing.{at_line, declares-next, mapped-none, mapped-some, next, none_open, one_name}
 use Rattle.acta_lang.proofs.NoCodes.{no_test}
@@ -69,8 +69,8 @@ loop-line-preserved g c =
           let here = noted-next (take n (lines_of c.args.text.now)) line x c.loop-line.invariant.notes (n + 1) (ap (λ k. k + 1) (sym it.1.1.1)) (none_open d c.loop-line.draft.current (form_of words) refl fits.place) in
           subst (λ (y : Noted). IsNoted (take (n + 1) (lines_of c.args.text.now)) y) (sym (c.read_line.ensures.noted was)) (subst (λ (lines : List (List ℕ)). IsNoted lines (noted_by (n + 1) words (form_of words) x)) (sym it.1.0) here);
       parsed =
-          subst (λ (o : Option OpenClass). IsSaid o (noted c.read_line.new.draft).current) (sym (ap (λ (e : Draft _). e.current) added))
-          (subst (λ (y : Noted). IsSaid (extended_by d line).current y.current) (sym (c.read_line.ensures.noted was)) (line-next (n + 1) words (form_of words) d x c.loop-line.invariant.parsed));
+          subst (λ (o : Option OpenClass). IsParsed o (noted c.read_line.new.draft).current) (sym (ap (λ (e : Draft _). e.current) added))
+          (subst (λ (y : Noted). IsParsed (extended_by d line).current y.current) (sym (c.read_line.ensures.noted was)) (line-next (n + 1) words (form_of words) d x c.loop-line.invariant.parsed));
       left = (next n (lines_of c.args.text.now) line rest left).1.1.0;
     }
 

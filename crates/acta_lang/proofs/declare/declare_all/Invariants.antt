@@ -2,14 +2,14 @@ use Rattle.std.proofs.Common.{◌≡◌, ◌≤◌, ◌+◌, length, take, drop}
 use Rattle.acta_words.specs.Text.{lines_of}
 use Rattle.acta_words.specs.inside.LinesToCome.{lines_to_come}
 use Rattle.acta_lang.specs.Drafts.{declared, nothing_yet}
-use Rattle.acta_lang.specs.inside.Noted.{IsNoted, IsSaid, noted}
+use Rattle.acta_lang.specs.inside.Noted.{IsNoted, IsParsed, noted}
 use Rattle.acta_lang.specs.inside.Abstraction.{abstraction}
 use Rattle.acta_lang.proofs.Sound.{IsFaultless}
 use Rattle.acta_lang.proofs.Turns.{meaning_from}
 use Rattle.acta_lang.proofs.declare.declare_all.Given as goal
 
--- what is left means, by the draft, what all of the text means from nothing on; and the draft is what the lines declare
--- that were read, with their numbers
+-- the meaning of the rest, after the draft, is that of the whole text; and the draft has the declarations of the lines read,
+-- with their numbers
 abbrev pub invariant-loop-line : goal.invariant-loop-line
 invariant-loop-line g l = record {
   means : meaning_from (l.number + 1) (abstraction l.draft) (lines_to_come l.lines) ≡ meaning_from 1 nothing_yet (lines_of l.text);
@@ -17,7 +17,7 @@ invariant-loop-line g l = record {
   faultless : IsFaultless (abstraction l.draft);
   declares : abstraction l.draft ≡ declared (take l.number (lines_of l.text));
   notes : IsNoted (take l.number (lines_of l.text)) (noted l.draft);
-  parsed : IsSaid (abstraction l.draft).current (noted l.draft).current;
+  parsed : IsParsed (abstraction l.draft).current (noted l.draft).current;
   left : drop l.number (lines_of l.text) ≡ lines_to_come l.lines;
 }
 

@@ -3,7 +3,7 @@ use Rattle.acta_lang.specs.Canonical.{class_words}
 use Rattle.acta_lang.specs.inside.Written.{written}
 use Rattle.acta_lang.proofs.printing.push_classes.Given as goal
 
--- with those that are left it is all
+-- with the rest, it is all
 abbrev pub invariant-loop-class : goal.invariant-loop-class
 invariant-loop-class g l =
     l.text.items ++ written (flat_map class_words (drop l.class-index l.classes)) ≡ l.initial.text.items ++ written (flat_map class_words l.classes)

@@ -5,8 +5,8 @@ use Rattle.acta_locked.specs.Drives.{EachLetOn}
 use Rattle.acta_locked.specs.inside.Outcomes.{MayEnd}
 use Rattle.acta_locked.proofs.run.joined.Given as goal
 
--- the parts so far, their count, room for the rest, which are still to come in order of their seats, and what is known of
--- the reports and of the fault
+-- the parts so far, their count, room for the rest, which follow in order of their seats, and the properties of the reports
+-- and of the fault
 abbrev pub invariant-loop-one : goal.invariant-loop-one
 invariant-loop-one g l = record {
   parts : l.all.parts + into_iter_len l.one-iterator ≡ l.fn.rest.parts + vec_len l.fn.running;

@@ -4,7 +4,7 @@ use Rattle.acta_script.specs.Reading.{alternatives_in}
 use Rattle.acta_script.proofs.Alternatives.{with_left}
 use Rattle.acta_script.proofs.programs.alternatives_in.Given as goal
 
--- what was found so far, with what the parts that are left give, is what all parts give
+-- the result so far, combined with the remaining parts, is the result of all parts
 abbrev pub invariant-loop-part : goal.invariant-loop-part
 invariant-loop-part g l = record {
   found : with_left l.events.items l.fault (alternatives_in l.model (map (λ part. map (λ word. word.now) part.now) (drop l.part-index l.parts))) ≡ alternatives_in l.model (map (λ part. map (λ word. word.now) part.now) l.parts);

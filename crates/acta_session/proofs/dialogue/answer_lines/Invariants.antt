@@ -3,7 +3,7 @@ use Rattle.acta_session.specs.Dialogues.{IsShownFor, cut}
 use Rattle.acta_session.specs.inside.Talks.{HasTalked, at_front}
 use Rattle.acta_session.proofs.dialogue.answer_lines.Given as goal
 
--- the lines that the bytes so far end are answered, and those of the bytes that are left are due
+-- the lines that the bytes so far complete are answered, and those of the rest are due
 abbrev pub invariant-loop-byte : goal.invariant-loop-byte
 invariant-loop-byte g l = record {
   talk : HasTalked (IsShownFor g.W.Words.says g.W.Words.says_ends l.prompt) (g.C.Console.since l.initial.console) l.console

@@ -5,7 +5,7 @@ use Rattle.acta_sets.specs.inside.Held.{changed_each}
 use Rattle.acta_sets.specs.inside.Filing.{AreFiledBut}
 use Rattle.acta_sets.proofs.changing.transfer_batches.Given as goal
 
--- what is left, from here, ends where all would, and what is in progress is filed, but for the batch
+-- changing the rest from here gives the final list, and the counts are right except for the batch
 abbrev pub invariant-loop-number : goal.invariant-loop-number
 invariant-loop-number g l =
     record {

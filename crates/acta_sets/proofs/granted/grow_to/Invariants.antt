@@ -2,7 +2,7 @@ use Rattle.std.specs.Prelude.{◌≡◌, ◌≤◌, ℕ, length}
 use Rattle.acta_sets.specs.inside.Granted.{is_granted}
 use Rattle.acta_sets.proofs.granted.grow_to.Given as goal
 
--- nothing shows of the sets so far
+-- the new sets make no difference
 abbrev pub invariant-loop : goal.invariant-loop
 invariant-loop g l = record {
   same : (v object partner : ℕ) → is_granted l.table.items v object partner ≡ is_granted l.initial.table.items v object partner;

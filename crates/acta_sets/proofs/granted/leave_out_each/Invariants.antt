@@ -5,7 +5,7 @@ use Rattle.acta_sets.specs.Permits.{has_grant}
 use Rattle.acta_sets.specs.inside.Granted.{is_granted}
 use Rattle.acta_sets.proofs.granted.leave_out_each.Given as goal
 
--- the counterparts of the grants so far are taken away
+-- the counterparts of the grants so far are removed
 abbrev pub invariant-loop-grant : goal.invariant-loop-grant
 invariant-loop-grant g l = record {
   left : (v object partner : ℕ) →

@@ -7,7 +7,7 @@ use Rattle.acta_table.specs.Dependencies.{all_kinds}
 use Rattle.acta_table.specs.Starts.{both_of, is_listed}
 use Rattle.acta_table.proofs.start_edges.in_order.Goals as goal
 
--- with one kind more pushed, what is left has one kind less
+-- after one more kind is appended, one kind less remains
 pub loop-kind-preserved : goal.loop-kind-preserved
 loop-kind-preserved g c =
     let p = is_listed c.args.edges.now in

@@ -13,7 +13,7 @@ returns-in-Ok-clause-ok c =
       c.spelling.ensures ∙ ap named_in (read.1 ∙ ap (λ app. subcommand_of app words) c.requires),
     )
 
--- an error that isn't for want of memory has one of the kinds of the words
+-- an error that isn't for lack of memory has one of the kinds of the words
 pub returns : goal.returns
 unfolding faults_of
 returns c =

@@ -4,7 +4,7 @@ use Rattle.acta_values.specs.KeptValues.{AreAfter}
 use Rattle.acta_values.proofs.TakenBack.{AreAfterBut}
 use Rattle.acta_values.proofs.values.take_back.Given as goal
 
--- those from here on are taken back
+-- the operations from here on are undone
 abbrev pub invariant-loop-left : goal.invariant-loop-left
 invariant-loop-left g l =
     record {

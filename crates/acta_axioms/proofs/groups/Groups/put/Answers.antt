@@ -5,7 +5,7 @@ use Rattle.std.proofs.lemmas.Grind.{common_steps}
 use Rattle.std.proofs.lemmas.List.{append-nil, length-map, get_or-map, get_or-set_same, get_or-set_other, map-set}
 use Rattle.acta_axioms.proofs.groups.Groups.put.Goals as goal
 
--- lists that are seen through f, with one item more in one of them
+-- lists seen through f, with one more item in one of them
 put-there : {X Y : Type 0} (f : X → List Y) (xs : List X) (i u : ℕ) (v w : X) (y : Y) → i < length xs → v ≡ get_or xs i v → f w ≡ f v ++ y ∷ []
     → get_or (map f (set xs i w)) u [] ≡ get_or (map f xs) u [] ++ (if i == u then y ∷ [] else [])
 put-there f xs i u v w y within is grown =
@@ -14,7 +14,7 @@ put-there f xs i u v w y within is grown =
     let own = get_or-map f xs i v [] within in
     grind (arith, common_steps, nat_tests, after, long, own, append-nil, get_or-set_same, get_or-set_other)
 
--- and where none of them is changed
+-- and if none of them is changed
 put-nowhere : {X Y : Type 0} (f : X → List Y) (xs : List X) (i u : ℕ) (v w : X) → i < length xs → v ≡ get_or xs i v → f w ≡ f v → get_or (map f (set xs i w)) u [] ≡ get_or (map f xs) u []
 put-nowhere f xs i u v w within is same =
     let long = length-map xs f in

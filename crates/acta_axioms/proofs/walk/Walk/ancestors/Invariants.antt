@@ -6,7 +6,7 @@ use Rattle.acta_table.specs.Numbered.{ascending}
 use Rattle.acta_axioms.specs.History.{parent_of, ancestors}
 use Rattle.acta_axioms.proofs.walk.Walk.ancestors.Given as goal
 
--- the numbers so far, with what is left of the line, are those of the line
+-- the numbers so far and those of the remaining ancestors are those of all ancestors
 abbrev pub invariant-loop : goal.invariant-loop
 invariant-loop g l =
     fold (insert_key nat_cmp) l.numbers.keys (map (λ u. u.0) (ancestors_from (length l.self.front - l.counter) (parent_of l.self.front) l.next)) ≡ ascending (map (λ u. u.0) (ancestors l.self.front l.fn.t.0))

@@ -4,7 +4,7 @@ use Rattle.acta_axioms.specs.Walks.{held_ops}
 use Rattle.acta_axioms.specs.inside.Walking.{is_sought, numbers_of}
 use Rattle.acta_axioms.proofs.walk.Walk.seek.Given as goal
 
--- the numbers so far and those of what is left are those of all
+-- the numbers so far and those of the rest are those of all
 abbrev pub invariant-loop-item : goal.invariant-loop-item
 invariant-loop-item g l =
     record {

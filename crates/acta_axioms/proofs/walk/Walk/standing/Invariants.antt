@@ -3,7 +3,7 @@ use Rattle.acta_axioms.specs.Operations.{number_after, standing_of}
 use Rattle.acta_axioms.specs.inside.Walking.{standing_in}
 use Rattle.acta_axioms.proofs.walk.Walk.standing.Given as goal
 
--- the operation as it stands among the items so far, and the number of the next
+-- the operation after the items so far, and the number of the next operation
 abbrev pub invariant-loop-i : goal.invariant-loop-i
 invariant-loop-i g l =
     record {

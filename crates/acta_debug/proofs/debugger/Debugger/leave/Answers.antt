@@ -5,7 +5,7 @@ use Rattle.acta_debug.proofs.Fronts.{fronts-more, fronts-set, taken-front}
 use Rattle.acta_debug.proofs.Standing.{stands}
 use Rattle.acta_debug.proofs.debugger.Debugger.leave.Goals as goal
 
--- the machine itself has kept a front of the history
+-- the machine itself has kept a prefix of the history
 pub invariant_of-self-then-count-gt0 : goal.invariant_of-self-then-count-gt0
 invariant_of-self-then-count-gt0 g c =
     let self = c.self.inside in

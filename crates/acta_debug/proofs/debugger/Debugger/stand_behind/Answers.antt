@@ -8,7 +8,7 @@ use Rattle.acta_debug.proofs.Standing.{inside-at, moved-at}
 use Rattle.acta_debug.proofs.debugger.Debugger.stand_behind.Given.{Over}
 use Rattle.acta_debug.proofs.debugger.Debugger.stand_behind.Goals as goal
 
--- the new machine has kept the items in front of the place
+-- the new machine has kept the items before the place
 stands : (g : Over) (c : goal.After-self-1 g) → c.replace.new.dest ≡ with_kept c.self.inside.machine.model (take c.args.n c.self.inside.history.items)
 stands g c =
     c.replace.ensures.after ∙ c.in_ok-machine.ensures.kept

@@ -5,7 +5,7 @@ use Rattle.acta_deps.specs.inside.BlockKinds.{would_owe_both}
 use Rattle.acta_deps.proofs.Walks.{least_of}
 use Rattle.acta_deps.proofs.deps.Deps.clashing.Given as goal
 
--- the least so far, with those up to here, gives the least of all
+-- the least so far, combined with the edges up to here, gives the least of all
 abbrev pub invariant-loop-place : goal.invariant-loop-place
 invariant-loop-place g l =
     record {

@@ -5,7 +5,7 @@ use Rattle.acta_deps.specs.Deps.{status_of}
 use Rattle.acta_deps.specs.inside.BlockKinds.{blocks}
 use Rattle.acta_deps.proofs.deps.Deps.first_blocking.Given as goal
 
--- the first up to here, or else the one that was found behind, is the first of all
+-- the first edge up to here, or else the one found later, is the first of all
 abbrev pub invariant-loop-place : goal.invariant-loop-place
 invariant-loop-place g l =
     record {

@@ -5,7 +5,7 @@ use Rattle.acta_deps.specs.Statuses.{with_status}
 use Rattle.acta_deps.specs.inside.BlockKinds.{owes}
 use Rattle.acta_deps.proofs.deps.Deps.owes.Given as goal
 
--- one of all owes where one up to here does
+-- some edge owes exactly if an edge up to here does
 abbrev pub invariant-loop-place : goal.invariant-loop-place
 invariant-loop-place g l =
     record {

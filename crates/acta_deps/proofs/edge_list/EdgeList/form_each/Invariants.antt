@@ -2,7 +2,7 @@ use Rattle.std.proofs.Common.{◌≡◌, ◌≤◌, length, take, drop}
 use Rattle.acta_table.specs.Edges.{formed}
 use Rattle.acta_deps.proofs.edge_list.EdgeList.form_each.Given as goal
 
--- with those left they are what all make, and those before stand in front
+-- forming the remaining edges gives the final list, and the earlier edges stay a prefix
 abbrev pub invariant-loop-edge : goal.invariant-loop-edge
 invariant-loop-edge g l =
     record {

@@ -1,7 +1,7 @@
 use Rattle.std.proofs.Common.{◌≡◌, length, take}
 use Rattle.acta_deps.proofs.places.Places.truncate.Given as goal
 
--- those in front are kept
+-- the first places are kept
 abbrev pub invariant-loop-self : goal.invariant-loop-self
 invariant-loop-self g l = take l.count l.self ≡ take l.count l.initial.self
 

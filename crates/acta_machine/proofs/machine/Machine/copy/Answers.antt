@@ -8,7 +8,7 @@ use Rattle.acta_values.specs.Stores.{Stored}
 use Rattle.acta_machine.proofs.Refusals.{none_refused}
 use Rattle.acta_machine.proofs.machine.Machine.copy.Goals as goal
 
--- all that is copied is as it was
+-- all copied parts are equal
 pub invariant_of-result : goal.invariant_of-result
 invariant_of-result g c =
     let deps = c.in_ok-copy.ensures.deps in

@@ -27,7 +27,7 @@ use Rattle.acta_machine.proofs.Unbroken.{Admissible, Unbroken, unbroken, none-ea
 use Rattle.acta_machine.proofs.Steps.{follows-push}
 use Rattle.acta_machine.proofs.machine.Machine.keep.Goals as goal
 
--- what is asked of the event, said of what the machine keeps
+-- the conditions on the event, in terms of the machine's lists
 module _ {A : Type 0} (model : Parts A) (kept : List (Kept A)) (s : Summary) (event : Event A) (due : List Edge) (now : State A)
     (agrees : s ≡ summary_of model kept) (is : record { model = model; kept = kept } ≡ now)
     (none : lowest_broken now.model (summary_of now.model now.kept) event ≡ None)
@@ -84,7 +84,7 @@ admit-requires-clause-fits g c =
     let same : length (formed c.make_room.new.self.deps.edges c.args.due.now) ≡ length (formed s.edges (edges_due model s event)) = λ i. length (formed (roomy i) (due i)) in
     omega (arith, room, same)
 
--- they are between transactions that there can be, and nothing is owed by them yet
+-- they are between valid transaction numbers and have no debt yet
 pub admit-requires-clause-fresh : goal.admit-requires-clause-fresh
 admit-requires-clause-fresh g c =
     let event = c.args.event.now in

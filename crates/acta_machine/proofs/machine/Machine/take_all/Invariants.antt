@@ -3,8 +3,8 @@ use Rattle.acta_machine.specs.Places.{FollowsPlaces}
 use Rattle.acta_machine.specs.Table.{answers_to, after_all}
 use Rattle.acta_machine.proofs.machine.Machine.take_all.Given as goal
 
--- the answers so far and those to what is left are those to all, and the machine, whose history follows
--- its places, goes on to the same end
+-- the answers so far and those to the remaining events are those to all, and the machine, which agrees with the places,
+-- reaches the same final state
 abbrev pub invariant-loop-event : goal.invariant-loop-event
 invariant-loop-event g l =
     record {

@@ -4,7 +4,7 @@ use Rattle.acta_machine.specs.Summary.{Summary, linked}
 use Rattle.acta_machine.specs.inside.Abstraction.{abstraction}
 use Rattle.acta_machine.proofs.machine_state.MachineState.admit.Goals as goal
 
--- the edges that are left are those that were in force before
+-- the remaining edges are those that were in force before
 pub returns-in-Err-clause-err : goal.returns-in-Err-clause-err
 unfolding linked
 returns-in-Err-clause-err g c =

@@ -57,7 +57,7 @@ join-requires-clause-stands g c =
     in_progress (abstraction c.args.self.now) NotInProgress c.in-Join.t.0
     (ap (λ (e : Event g.row.A.Denot). not_in_progress (abstraction c.args.self.now) e) (sym c.in-Join.is) ∙ c.requires.progress)
 
--- operations are given first, and then the one that holds them begins, or the other way round
+-- transferring the operations and starting the new holder commute
 pub returns-in_ok-give-in-Split-clause-shows : goal.returns-in_ok-give-in-Split-clause-shows
 unfolding stood entered given
 returns-in_ok-give-in-Split-clause-shows g c =

@@ -27,7 +27,7 @@ committed-requires-clause-stands g c =
     ap (λ b. status_of b.deps c.args.t.0) c.settle.ensures.others
     ∙ in_progress (abstraction c.args.self.now) NotInProgress c.args.t.0 c.requires.stands
 
--- what t holds goes on first, and then t has ended so, or the other way round
+-- transferring t's operations and ending t commute
 terminated-settled : (s : Summary) (t : TxnId) (x : Status) (heir : Option TxnId) → terminated (settled s t heir) t x ≡ settled (terminated s t x) t heir
 unfolding terminated inherited fated
 terminated-settled s t x None = refl

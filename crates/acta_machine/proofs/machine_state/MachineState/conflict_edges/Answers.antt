@@ -7,7 +7,7 @@ use Rattle.acta_machine.specs.inside.Abstraction.{abstraction}
 use Rattle.acta_axioms.proofs.Searches.{upon-refuses}
 use Rattle.acta_machine.proofs.machine_state.MachineState.conflict_edges.Goals as goal
 
--- a class that refuses forms none
+-- a class that refuses forms no edges
 pub returns-then-refuses : goal.returns-then-refuses
 returns-then-refuses g c =
     let us = conflicting_holders c.args.self.now.model (abstraction c.args.self.now) c.args.t.0 c.args.ob c.args.op.now in

@@ -6,7 +6,7 @@ use Rattle.acta_machine.specs.Rules.{unknown_in}
 use Rattle.acta_machine.specs.inside.Abstraction.{abstraction}
 use Rattle.acta_machine.proofs.machine_state.MachineState.unknown_in.Given as goal
 
--- the least so far, with what is left, gives the least of all
+-- the least so far, combined with the rest, gives the least of all
 abbrev pub invariant-loop-op : goal.invariant-loop-op
 invariant-loop-op g l =
     least_from l.least (filter (λ n. is_none (operation_at l.self.store.items n)) (numbers_of (drop l.op-index l.ops))) ≡ unknown_in (abstraction l.self) l.ops

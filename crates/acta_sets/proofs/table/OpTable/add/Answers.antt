@@ -6,7 +6,7 @@ use Rattle.acta_sets.specs.inside.Held.{AreHeld}
 use Rattle.acta_sets.specs.inside.Filing.{AreFiled}
 use Rattle.acta_sets.proofs.Access.{AreHeld-added}
 use Rattle.acta_sets.specs.inside.Modes.{coarse, listed_fine}
-use Rattle.acta_sets.specs.inside.Listing.{AreListed, FrontsHold, is_tag, numbers_in}
+use Rattle.acta_sets.specs.inside.Listing.{AreListed, FrontsHold, is_key, numbers_in}
 use Rattle.acta_sets.proofs.Listed.{AreListed-same, AreListed-more, FrontsHold-same, FrontsHold-added}
 use Rattle.acta_sets.proofs.Filed.{filed_small, AreFiled-same, AreFiled-added}
 use Rattle.acta_sets.proofs.table.OpTable.add.Goals as goal
@@ -30,16 +30,16 @@ invariant_of-self-2 g c =
       filed = subst (λ xs. AreFiled xs c.count_in.new.counts) (sym after) filed;
       coarse = subst (λ xs. AreListed coarse xs c.list_under.new.lists) (sym after)
           (AreListed-more coarse items c.make_place.new.lists c.list_under.new.lists x (c.len.result + 1) number (AreListed-same coarse items c.self.inside.coarse c.make_place.new.lists c.self.invariant.coarse c.make_place.ensures.numbers)
-          (λ q. c.list_under.ensures.numbers q ∙ ap (λ o. if is_tag q c.args.ob.0 o then numbers_in c.make_place.new.lists q ++ (c.len.result + 1) ∷ [] else numbers_in c.make_place.new.lists q) c.coarse-coarse.ensures));
+          (λ q. c.list_under.ensures.numbers q ∙ ap (λ o. if is_key q c.args.ob.0 o then numbers_in c.make_place.new.lists q ++ (c.len.result + 1) ∷ [] else numbers_in c.make_place.new.lists q) c.coarse-coarse.ensures));
       coarse_fronts = subst (λ xs. FrontsHold xs c.list_under.new.lists) (sym after)
           (FrontsHold-added coarse items c.make_place.new.lists c.list_under.new.lists x (c.len.result + 1) (FrontsHold-same items c.self.inside.coarse c.make_place.new.lists c.self.invariant.coarse_fronts c.make_place.ensures.numbers c.make_place.ensures.fronts)
-          (λ q. c.list_under.ensures.numbers q ∙ ap (λ o. if is_tag q c.args.ob.0 o then numbers_in c.make_place.new.lists q ++ (c.len.result + 1) ∷ [] else numbers_in c.make_place.new.lists q) c.coarse-coarse.ensures)
+          (λ q. c.list_under.ensures.numbers q ∙ ap (λ o. if is_key q c.args.ob.0 o then numbers_in c.make_place.new.lists q ++ (c.len.result + 1) ∷ [] else numbers_in c.make_place.new.lists q) c.coarse-coarse.ensures)
           c.list_under.ensures.fronts);
       fine = subst (λ xs. AreListed listed_fine xs c.list_under-2.new.lists) (sym after)
           (AreListed-more listed_fine items c.make_place-2.new.lists c.list_under-2.new.lists x (c.len.result + 1) number (AreListed-same listed_fine items c.self.inside.fine c.make_place-2.new.lists c.self.invariant.fine c.make_place-2.ensures.numbers)
-          (λ q. c.list_under-2.ensures.numbers q ∙ ap (λ o. if is_tag q c.args.ob.0 o then numbers_in c.make_place-2.new.lists q ++ (c.len.result + 1) ∷ [] else numbers_in c.make_place-2.new.lists q) c.listed_fine-fine.ensures));
+          (λ q. c.list_under-2.ensures.numbers q ∙ ap (λ o. if is_key q c.args.ob.0 o then numbers_in c.make_place-2.new.lists q ++ (c.len.result + 1) ∷ [] else numbers_in c.make_place-2.new.lists q) c.listed_fine-fine.ensures));
       fine_fronts = subst (λ xs. FrontsHold xs c.list_under-2.new.lists) (sym after)
           (FrontsHold-added listed_fine items c.make_place-2.new.lists c.list_under-2.new.lists x (c.len.result + 1) (FrontsHold-same items c.self.inside.fine c.make_place-2.new.lists c.self.invariant.fine_fronts c.make_place-2.ensures.numbers c.make_place-2.ensures.fronts)
-          (λ q. c.list_under-2.ensures.numbers q ∙ ap (λ o. if is_tag q c.args.ob.0 o then numbers_in c.make_place-2.new.lists q ++ (c.len.result + 1) ∷ [] else numbers_in c.make_place-2.new.lists q) c.listed_fine-fine.ensures)
+          (λ q. c.list_under-2.ensures.numbers q ∙ ap (λ o. if is_key q c.args.ob.0 o then numbers_in c.make_place-2.new.lists q ++ (c.len.result + 1) ∷ [] else numbers_in c.make_place-2.new.lists q) c.listed_fine-fine.ensures)
           c.list_under-2.ensures.fronts);
     }

@@ -10,7 +10,7 @@ use Rattle.acta_sets.proofs.Listed.{AreListed-same, AreListed-ended, FrontsHold-
 use Rattle.acta_sets.proofs.table.OpTable.end_all.Given.{Over}
 use Rattle.acta_sets.proofs.table.OpTable.end_all.Goals as goal
 
--- the list of t names what it holds in progress
+-- the list of t has the operations that it holds in progress
 items_are : (g : Over) (c : goal.After-clear_held g) → c.end_each.new.items.items ≡ ended c.args.t.0 c.args.fate c.self.inside.items.items
 items_are g c =
     c.end_each.ensures.items

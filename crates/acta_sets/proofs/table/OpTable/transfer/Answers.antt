@@ -51,7 +51,7 @@ transfer_each-requires-clause-short g c =
     ∙ filter-numbers (is_named c.args.ops.now) (is_held c.args.from.0) 1 items in
     omega (arith, ap length same, length-numbers_by (λ k i. is_held c.args.from.0 i && is_named c.args.ops.now k) 1 items, c.self.invariant.few)
 
--- those that are named among what `from` holds in progress
+-- the named operations among those that `from` holds in progress
 given_is : (g : Over) (c : After-drop-named-2 g) → c.as_slice.result.now ≡ numbers_by (λ k i. is_held c.args.from.0 i && is_named c.args.ops.now k) 1 c.self.inside.items.items
 given_is g c =
     c.as_slice.ensures.value ∙ c.in_ok-named.ensures ∙ ap (named_of c.args.ops.now) (c.list_of.ensures ∙ c.self.invariant.held c.args.from.0)

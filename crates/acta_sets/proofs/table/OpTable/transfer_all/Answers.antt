@@ -36,7 +36,7 @@ transfer_each-requires-clause-short g c =
     let same = c.as_slice-2.ensures.value ∙ c.in_ok-given.ensures.items ∙ c.list_of.ensures ∙ c.self.invariant.held c.args.t.0 ∙ sym (numbers_by-all (is_held c.args.t.0) 1 items) in
     omega (arith, ap length same, length-numbers_by (λ _ i. is_held c.args.t.0 i) 1 items, c.self.invariant.few)
 
--- the list of t names what it holds in progress
+-- the list of t has the operations that it holds in progress
 given_is : (g : Over) (c : After-drop-given-2 g) → c.as_slice.result.now ≡ numbers_by (λ _ i. is_held c.args.t.0 i) 1 c.self.inside.items.items
 given_is g c =
     c.as_slice.ensures.value ∙ c.in_ok-given.ensures.items ∙ c.list_of.ensures ∙ c.self.invariant.held c.args.t.0

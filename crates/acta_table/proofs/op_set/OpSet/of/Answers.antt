@@ -12,7 +12,7 @@ invariant_of-result-2 g c =
     let numbers = ap numbers_of (c.of-2.ensures ∙ c.in_ok-listed.ensures.listed) ∙ numbers-numbered c.in_ok-set.set.keys in
     subst (λ (ns : List ℕ). IsStrictlySortedBy nat_cmp ns) (sym numbers) c.listed.ensures.ascending
 
--- those that stand in order
+-- numbers that are already ascending
 pub invariant_of-result : goal.invariant_of-result
 invariant_of-result g c =
     subst (λ (ops : List OpNo). IsStrictlySortedBy nat_cmp (numbers_of ops)) (sym (c.of.ensures ∙ c.in_ok-from_slice.ensures.items)) (c.ascend.ensures c.if-ascend.true)

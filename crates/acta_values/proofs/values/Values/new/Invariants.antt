@@ -5,6 +5,6 @@ use Rattle.acta_values.specs.declared.live_value.LiveValue.{LiveValue}
 use Rattle.acta_values.specs.LiveValues.{IsAfter}
 use Rattle.acta_values.proofs.values.Values.new.Given as goal
 
--- those so far are the first values
+-- the values so far are the initial ones
 abbrev pub invariant-loop-kind : goal.invariant-loop-kind
 invariant-loop-kind g l = AllZip (λ (kind : Kind) (v : LiveValue g.row.A.Denot). IsAfter kind [] v) (take l.kind-index l.kinds) l.values.items

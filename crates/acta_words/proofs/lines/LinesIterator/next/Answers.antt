@@ -5,7 +5,7 @@ use Rattle.acta_words.specs.inside.LinesToCome.{lines_to_come}
 use Rattle.acta_words.proofs.FirstLines.{goes_on}
 use Rattle.acta_words.proofs.lines.LinesIterator.next.Goals as goal
 
--- the first line goes, and the others are left
+-- the first line is removed, and the others are left
 pub returns-clause-steps : goal.returns-clause-steps
 returns-clause-steps c =
     ap (λ rest. option_map_or (λ text. lines_of text.now) rest []) c.in_ok-text.was

@@ -1,6 +1,6 @@
 use Rattle.std.proofs.Common.{ap, ◌∙◌, unwrap_or}
 use Rattle.acta_table.specs.Starts.{each_start_edge_once}
-use Rattle.acta_lang.proofs.parsed.Said.class.Goals as goal
+use Rattle.acta_lang.proofs.parsed.Parsed.class.Goals as goal
 
 pub returns : goal.returns
 returns g c = λ i. record {
