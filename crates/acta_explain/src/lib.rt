@@ -1,8 +1,7 @@
 //! Explains runs and histories in words. Each event is shown with its answer, and with what it formed or why it is refused:
 //! the rule, what breaks it, and what must happen before the event can be admitted. For a faulty line, text or image the
 //! explanation says where the fault is, what a good one has there, and which word was perhaps meant. Each rule, axiom and
-//! code is explained by name.
-//! axiom and code is explained by its name.
+//! code is explained by its name.
 //!
 //! This crate decides nothing: the crates below say what is admitted, why an event is refused, whether there is hope and
 //! what is wrong with a history, and this one puts it into sentences. A call that allocates returns `Err` if memory runs

@@ -50,6 +50,30 @@ pub(crate) const STARTER: &str = "starter";
 
 pub(crate) const STARTED: &str = "started";
 
+const JOIN: &str = "join";
+
+const DELEGATE: &str = "delegate";
+
+const FORM: &str = "form";
+
+const OPERATE: &str = "operate";
+
+const ABORT: &str = "abort";
+
+const PERMIT: &str = "permit";
+
+const OTHERS: &str = "others";
+
+const NON_ANCESTORS: &str = "nonancestors";
+
+const KEEPS: &str = "keeps";
+
+const TO_PARENT: &str = "toparent";
+
+const WHOLE: &str = "whole";
+
+const ANY: &str = "any";
+
 /// The kinds of event that a class may do, by code.
 pub(crate) const MAY_KINDS: [EventKind; 9] = [
     EventKind::Spawn,
@@ -82,16 +106,16 @@ pub(crate) fn may_word(kind: EventKind) -> &'static str
     ensures { result.now ≡ may_word kind }
 {
     match kind {
-        EventKind::Begin => "begin",
-        EventKind::Spawn => "spawn",
-        EventKind::Split => "split",
-        EventKind::Join => "join",
-        EventKind::Delegate => "delegate",
-        EventKind::Form => "form",
-        EventKind::Operate => "operate",
-        EventKind::Commit => "commit",
-        EventKind::Abort => "abort",
-        EventKind::Permit => "permit",
+        EventKind::Begin => BEGIN,
+        EventKind::Spawn => SPAWN,
+        EventKind::Split => SPLIT,
+        EventKind::Join => JOIN,
+        EventKind::Delegate => DELEGATE,
+        EventKind::Form => FORM,
+        EventKind::Operate => OPERATE,
+        EventKind::Commit => COMMIT,
+        EventKind::Abort => ABORT,
+        EventKind::Permit => PERMIT,
     }
 }
 
@@ -120,8 +144,8 @@ pub(crate) fn scope_word(scope: Scope) -> &'static str
     ensures { result.now ≡ scope_word scope }
 {
     match scope {
-        Scope::Others => "others",
-        Scope::NonAncestors => "nonancestors",
+        Scope::Others => OTHERS,
+        Scope::NonAncestors => NON_ANCESTORS,
     }
 }
 
@@ -140,8 +164,8 @@ pub(crate) fn commit_word(at_commit: AtCommit) -> &'static str
     ensures { result.now ≡ commit_word at_commit }
 {
     match at_commit {
-        AtCommit::Keeps => "keeps",
-        AtCommit::ToParent => "toparent",
+        AtCommit::Keeps => KEEPS,
+        AtCommit::ToParent => TO_PARENT,
     }
 }
 
@@ -160,8 +184,8 @@ pub(crate) fn extent_word(extent: Extent) -> &'static str
     ensures { result.now ≡ extent_word extent }
 {
     match extent {
-        Extent::Whole => "whole",
-        Extent::Any => "any",
+        Extent::Whole => WHOLE,
+        Extent::Any => ANY,
     }
 }
 
@@ -182,7 +206,7 @@ const FIRST_WORDS: [&str; 11] = [
 
 // The words of the kinds of event that a class may do, by code.
 const MAY_WORDS: [&str; 9] = [
-    "spawn", "split", "join", "delegate", "form", "operate", "commit", "abort", "permit",
+    SPAWN, SPLIT, JOIN, DELEGATE, FORM, OPERATE, COMMIT, ABORT, PERMIT,
 ];
 
 // The words of the kinds of dependency, by code.
@@ -199,10 +223,10 @@ pub(crate) fn meant_words(expected: Expected) -> &'static [&'static str]
         Expected::ObjectKind => &[REGISTER, COUNTER, SET],
         Expected::Starts => &[BEGIN, SPAWNED, SPLIT],
         Expected::May => &MAY_WORDS,
-        Expected::Scope => &["others", "nonancestors"],
+        Expected::Scope => &[OTHERS, NON_ANCESTORS],
         Expected::Policy => &[REFUSE, DEPEND],
-        Expected::Commit => &["keeps", "toparent"],
-        Expected::Delegation => &["whole", "any"],
+        Expected::Commit => &[KEEPS, TO_PARENT],
+        Expected::Delegation => &[WHOLE, ANY],
         Expected::SpawnEnd | Expected::SplitEnd => &[STARTER, STARTED],
         Expected::Kinds | Expected::SpawnKind | Expected::SplitKind => &KIND_WORDS,
         _ => &[],

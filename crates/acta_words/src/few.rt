@@ -1,6 +1,6 @@
 //! The words of a line, in an array: most lines have few words, and need no memory then.
 
-ghost use Rattle.std.specs.Prelude.{◌≡◌, ◌++◌, ◌∷◌, [], map, true, IfSome};
+ghost use Rattle.std.specs.Prelude.{◌≡◌, ◌<◌, ◌≤◌, ◌++◌, ◌∷◌, [], length, map, true, false, IfSome, IfNone};
 ghost use Rattle.acta_words.specs.Text.{words_of};
 
 use crate::spans::next_span;
@@ -38,9 +38,10 @@ impl<'a> FewWords<'a> {
         }
     }
 
-    // Appends a word, unless there are 8. Answers whether it fits.
+    // Appends a word, unless there are 8. Returns whether it fits.
     fn push(&mut self, word: &'a [u8]) -> bool
-        ensures { result ≡ true → self.new ≡ self.old ++ word.now ∷ [] }
+        ensures fits { result ≡ true → self.new ≡ self.old ++ word.now ∷ [] }
+        ensures full { result ≡ false → 8 ≤ length self.old }
     {
         if self.count == MOST {
             return false;
@@ -60,7 +61,8 @@ impl<'a> FewWords<'a> {
 
 /// Returns the words of a line, or `None` if there are more than 8.
 pub fn few_words(line: &[u8]) -> Option<FewWords<'_>>
-    ensures { IfSome result (λ words. words ≡ words_of line.now) }
+    ensures few { IfSome result (λ words. words ≡ words_of line.now) }
+    ensures many { IfNone result (8 < length (words_of line.now)) }
 {
     let bytes = without_comment(line);
     let mut words = FewWords::new();
