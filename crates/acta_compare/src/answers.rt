@@ -7,9 +7,9 @@ use crate::owed::owed_only;
 use crate::reported::Reported;
 use crate::seen::Seen;
 use crate::side::Side;
-use acta_explain::{Prose, first_listed, put, put_more, put_words};
 use acta_io::{NonBlankLine, Report, non_blank_lines};
 use acta_machine::Handle;
+use acta_prose::{Prose, first_listed, put, put_more, put_words};
 use acta_script::LineFault;
 use std::alloc::AllocError;
 

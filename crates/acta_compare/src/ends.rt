@@ -6,11 +6,11 @@ ghost use Rattle.acta_compare.specs.OnlyIn.{HasOutcomes};
 
 use crate::only::only_in;
 use crate::side::Side;
-use acta_explain::{Prose, put, put_model_name};
 use acta_explore::{Explored, Plan};
 use acta_io::{NonBlankLine, Report, non_blank_lines, numbers_of_lines};
 use acta_machine::Handle;
 use acta_programs::{Programs, put_count, put_end};
+use acta_prose::{Prose, put, put_model_name};
 use acta_script::ProgramLine;
 use std::alloc::AllocError;
 

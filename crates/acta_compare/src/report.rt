@@ -15,7 +15,6 @@ use crate::args::{Asked, Compared};
 use crate::ends::{Ends, explain_only};
 use crate::side::Side;
 use acta_args::ModelName;
-use acta_explain::{Prose, name_text, put, put_model_name};
 use acta_explore::{ExploreError, Explored, Watch, explore};
 use acta_io::{
     BadLine, MOST_SEATS, ModelError, NoModel, Outcome, ProgramLines, ReadFault, Report, Sink,
@@ -23,6 +22,7 @@ use acta_io::{
 };
 use acta_machine::Handle;
 use acta_programs::explain_incomplete;
+use acta_prose::{Prose, name_text, put, put_model_name};
 use acta_script::ProgramLine;
 use acta_table::Model;
 use std::alloc::AllocError;

@@ -1,14 +1,14 @@
 //! A run of one of the models, in words, line by line.
 
 use crate::side::Side;
-use acta_explain::{
-    LineForm, Prose, Refused, RunTrace, Stop, put_barred, put_line, put_model_name, put_stop,
-};
 use acta_explore::Debt;
 use acta_hope::{Hope, why_and_hope};
 use acta_io::NonBlankLine;
 use acta_machine::{Handle, Machine, Reason};
 use acta_programs::put_debts;
+use acta_prose::{
+    LineForm, Prose, Refused, RunTrace, Stop, put_barred, put_line, put_model_name, put_stop,
+};
 use acta_script::{LineError, answer_line, read_event};
 use acta_table::Event;
 use std::alloc::AllocError;

@@ -5,8 +5,8 @@ use crate::lanes::Lanes;
 use crate::markup::{END_OF_GROUP, put_titled};
 use crate::selection::Selection;
 use crate::svg_layout::SvgLayout;
-use acta_explain::{Prose, put};
 use acta_machine::Handle;
+use acta_prose::{Prose, put};
 use acta_table::TxnId;
 use std::alloc::{AllocError, Allocator};
 

@@ -1,6 +1,6 @@
 //! A line of characters on which marks and ties are put, in colours or without.
 
-use acta_explain::{Prose, digits};
+use acta_prose::{Prose, digits};
 use std::alloc::{AllocError, Allocator};
 
 /// The colour of a character.

@@ -1,8 +1,8 @@
 //! The rows of a picture that are chosen: all, or those of some places, objects, transactions or refusals, and of these a page.
 
 use crate::lanes::{Lanes, Row};
-use acta_explain::name_text;
 use acta_machine::Handle;
+use acta_prose::name_text;
 use acta_table::{Event, Model, TxnId};
 use std::alloc::{AllocError, Allocator};
 

@@ -3,9 +3,9 @@
 use crate::arrows::{Arrow, add_edge};
 use crate::lanes::Lanes;
 use crate::selection::name;
-use acta_explain::{MOST_RENDERED, Prose, put, put_line_text, put_operation, put_standing};
 use acta_hope::{Hope, Wait, deadlocks, wait_of};
 use acta_machine::{Handle, NumberedEdge};
+use acta_prose::{MOST_RENDERED, Prose, put, put_line_text, put_operation, put_standing};
 use acta_table::{Edge, Items, TABLE_SIZE, TxnId};
 use std::alloc::{AllocError, Allocator};
 

@@ -9,8 +9,8 @@ use crate::markup::{
 use crate::notation::put_event;
 use crate::svg_layout::{MARGIN, label_width};
 use crate::wrapping::{put_cut, wrapped};
-use acta_explain::{Prose, digits, put};
 use acta_machine::Handle;
+use acta_prose::{Prose, digits, put};
 use acta_table::{Status, TxnId};
 use std::alloc::AllocError;
 

@@ -6,8 +6,8 @@ use crate::lanes::Lanes;
 use crate::screen::Screen;
 use crate::text::put_notice;
 use crate::wrapping::wrapped;
-use acta_explain::{Prose, put};
 use acta_machine::Handle;
+use acta_prose::{Prose, put};
 use std::alloc::AllocError;
 
 // How far the items of a list are from the left, and the further lines of an item.

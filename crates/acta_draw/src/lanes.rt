@@ -6,10 +6,10 @@ ghost use Rattle.acta_draw.specs.Rows.{place_after, returned};
 
 use crate::blockers::{Blocker, Blockers, blockers_of};
 use crate::marks::{Figure, figure_of};
-use acta_explain::{RunTrace, StepText};
 use acta_hope::heir;
 use acta_io::{BadLine, Input, NonBlankLine};
 use acta_machine::Handle;
+use acta_prose::{RunTrace, StepText};
 use acta_table::{Answer, Edge, Event, Model, Owed, Ret, TxnId};
 use acta_trace::{Step, Steps};
 use std::alloc::AllocError;

@@ -2,8 +2,8 @@
 
 use crate::lanes::Lanes;
 use crate::selection::Selection;
-use acta_explain::digits;
 use acta_machine::Handle;
+use acta_prose::digits;
 use acta_table::LAST_TXN;
 
 /// The width of the column of places, with the blanks after it.

@@ -8,8 +8,8 @@ use crate::markup::{put_circle, put_text};
 use crate::notation::{NOTATIONS, Notation, notation_of};
 use crate::svg::put_mark;
 use crate::svg_layout::{MARGIN, RowBox, box_width, note_width};
-use acta_explain::{Prose, put};
 use acta_machine::Handle;
+use acta_prose::{Prose, put};
 use acta_table::{Event, OpNo, TxnId};
 use std::alloc::AllocError;
 

@@ -2,7 +2,7 @@
 //! and a tie between the two.
 
 use crate::canvas::Ink;
-use acta_explain::first_named;
+use acta_prose::first_named;
 use acta_table::{Event, LAST_TXN, OpNo, TxnId};
 use acta_trace::Step;
 use std::alloc::Allocator;

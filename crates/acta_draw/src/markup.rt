@@ -1,6 +1,6 @@
 //! The elements of an SVG. Texts are escaped here, and nowhere else.
 
-use acta_explain::{Prose, put};
+use acta_prose::{Prose, put};
 use std::alloc::Allocator;
 
 /// How the parts of a picture look.

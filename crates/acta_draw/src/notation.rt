@@ -2,8 +2,8 @@
 
 use crate::lanes::{Row, returned};
 use crate::wrapping::put_cut;
-use acta_explain::{Prose, name_text, put, put_return};
 use acta_machine::Handle;
+use acta_prose::{Prose, name_text, put, put_return};
 use acta_script::object_name;
 use acta_table::{Event, Model, Op, Ret};
 use std::alloc::{AllocError, Allocator};

@@ -15,12 +15,12 @@ use crate::lanes::Lanes;
 use crate::screen::Screen;
 use crate::svg::{draw_svg, draw_words};
 use crate::text::draw_text;
-use acta_explain::name_text;
 use acta_io::{
     EventLines, ModelError, NoModel, Outcome, ReadFault, Report, Sink, Source, read_lines,
     read_model, read_within, refuse_line, refuse_model, write_report,
 };
 use acta_machine::Handle;
+use acta_prose::name_text;
 use acta_table::Model;
 use std::alloc::AllocError;
 

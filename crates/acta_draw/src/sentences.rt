@@ -4,10 +4,10 @@ use crate::choice::{Choice, has_object};
 use crate::lanes::{Lanes, Row, returned};
 use crate::notation::put_event;
 use crate::selection::{PageNumber, Selection};
-use acta_explain::{
+use acta_machine::Handle;
+use acta_prose::{
     MOST_RENDERED, Prose, first_listed, put, put_edges, put_more, put_numbered_edge, put_return,
 };
-use acta_machine::Handle;
 use acta_table::{Event, Missing, Model, Owed, TxnId};
 use std::alloc::{AllocError, Allocator};
 

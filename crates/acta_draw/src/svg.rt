@@ -16,8 +16,8 @@ use crate::svg_layout::{
     HEADS, MARGIN, MIDDLE, NEXT_WORDS, PLACE_X, ROW, RowBox, SvgLayout, box_width,
 };
 use crate::wrapping::{put_cut, wrapped};
-use acta_explain::{Prose, digits, name_text, put};
 use acta_machine::Handle;
+use acta_prose::{Prose, digits, name_text, put};
 use acta_script::owed_line;
 use acta_table::{Owed, TxnId};
 use std::alloc::AllocError;

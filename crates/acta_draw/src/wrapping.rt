@@ -1,7 +1,7 @@
 //! Texts that fit a width: cut, or split into lines.
 
-use acta_explain::{Prose, put};
 use acta_machine::Handle;
+use acta_prose::{Prose, put};
 use std::alloc::{AllocError, Allocator};
 use unicode_width::UnicodeWidthStr;
 

@@ -1,13 +1,12 @@
 //! The command line of `explain`.
 
-use crate::prose::Prose;
-use crate::put;
 use crate::tables::{CODES, MOST_ENTRIES, Table, put_meant};
 use acta_args::{
     CommandLine, ModelName, UsageFault, flag, model_arg, model_named, nearest, option, usage,
     with_arg,
 };
 use acta_io::LineKind;
+use acta_prose::{Prose, put};
 use clap::error::ErrorKind;
 use clap::{ArgAction, ArgMatches, Command};
 use std::alloc::{AllocError, Global};

@@ -1,12 +1,8 @@
 //! Transactions whose last events are refused, and the deadlocks among them.
 
-use crate::lines::LineIndex;
-use crate::phrases::{put_line_text, put_operation};
-use crate::prose::Prose;
-use crate::put;
-use crate::run_trace::RunTrace;
 use acta_hope::{Hope, Wait, deadlocks, wait_of};
 use acta_machine::Handle;
+use acta_prose::{LineIndex, Prose, RunTrace, put, put_line_text, put_operation};
 use acta_table::TxnId;
 use std::alloc::AllocError;
 

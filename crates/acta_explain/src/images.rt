@@ -1,9 +1,8 @@
 //! Describes a faulty image: the field at fault, and what it may have.
 
-use crate::prose::Prose;
-use crate::put;
 use acta_image::{Field, ImageDiagnostic, ImageFault, diagnose};
 use acta_machine::Handle;
+use acta_prose::{Prose, put};
 
 // What each field is, and what it may have.
 #[rattlefmt::skip]

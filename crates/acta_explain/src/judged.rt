@@ -7,20 +7,16 @@ ghost use Rattle.acta_table.specs.declared.limits.TheConstants.{MOST_EVENTS};
 ghost use Rattle.acta_io.specs.Refusals.{refuses_kept_on};
 ghost use Rattle.acta_io.specs.Input.{parsed_in};
 
-use crate::faults::{LineForm, Stop, put_lines, put_stop};
-use crate::lines::{LineIndex, LineText, StepText};
-use crate::phrases::{
-    class_at, put_formed_edge, put_line, put_line_text, put_may, put_operation, put_return,
-    put_starts,
-};
-use crate::prose::{Prose, report_of};
-use crate::put;
-use crate::run_trace::MOST_RENDERED;
 use acta_axioms::{Axiom, Fault, Walk};
 use acta_io::{KeptLines, NonBlankLine, Report, read_lines};
 use acta_judge::{Verdict, judge};
 use acta_machine::Handle;
 use acta_objects::form_fault;
+use acta_prose::{
+    LineForm, LineIndex, LineText, MOST_RENDERED, Prose, StepText, Stop, class_at, put,
+    put_formed_edge, put_line, put_line_text, put_lines, put_may, put_operation, put_return,
+    put_starts, put_stop, report_of,
+};
 use acta_script::{fault_line, owed_line};
 use acta_table::{Answer, Event, Kept, LAST_TXN, MOST_EVENTS, Model, OpNo, Owed, Ret, TxnId};
 use acta_trace::{Step, Steps};

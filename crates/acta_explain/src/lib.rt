@@ -11,35 +11,13 @@
 mod advice;
 mod args;
 mod deadlocks;
-mod debts;
-mod faults;
 mod images;
 mod judged;
-mod layout;
-mod lines;
-mod listing;
-mod phrases;
-mod prose;
-mod reasons;
 mod report;
 mod run;
-mod run_trace;
-mod shown;
 mod tables;
 mod texts;
 
 pub use advice::{Advice, advice_for};
 pub use args::{Asked, ExplainLine};
-pub use debts::put_prospect;
-pub use faults::{LineForm, Stop, fault_text, put_stop};
-pub use layout::{digits, put_barred};
-pub use lines::{LineIndex, StepText, put_words};
-pub use listing::{first_listed, put_more};
-pub use phrases::{
-    allowing_word, class_at, first_named, name_text, put_edges, put_formed_edge, put_lacking,
-    put_line, put_line_text, put_numbered_edge, put_operation, put_return, put_standing,
-};
-pub use prose::{Prose, report_of};
-pub use reasons::Refused;
-pub use report::{explain, explain_no_model, explain_tool, put_model_name, write_words};
-pub use run_trace::{MOST_RENDERED, RunTrace, put_formed};
+pub use report::{explain, explain_no_model, explain_tool, write_words};

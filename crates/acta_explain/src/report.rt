@@ -5,12 +5,8 @@ ghost use Rattle.acta_io.specs.Outcome.{FailsBy, IsUnreadTooLong, KeepsUnread, W
 ghost use Rattle.acta_io.specs.Models.{of_either};
 ghost use Rattle.acta_io.specs.Refusals.{EndsAs, refuses};
 
-use crate::faults::put_lines;
 use crate::images::put_image_fault;
 use crate::judged::explain_judged;
-use crate::phrases::name_text;
-use crate::prose::{Prose, report_of};
-use crate::put;
 use crate::run::{explain_run, explain_script, explain_seated};
 use crate::texts::put_text_fault;
 use acta_args::ModelName;
@@ -19,17 +15,10 @@ use acta_io::{
     read_within, refuse_model, write_report,
 };
 use acta_machine::Handle;
+use acta_prose::{Prose, name_text, put, put_lines, put_model_name, report_of};
 use acta_table::Model;
 use std::alloc::{AllocError, Global};
 use std::thread::Threads;
-
-/// Adds a model's name as a command line has it.
-pub fn put_model_name<A: Handle>(prose: Prose<A>, name: ModelName<'_>) -> Prose<A> {
-    match name {
-        ModelName::Standard(standard) => put!(prose; "@", standard.name()),
-        ModelName::Path(path) => prose.put(path),
-    }
-}
 
 /// The report on bytes that are not a model: the line that all commands write, and the description of the fault.
 pub fn explain_no_model<A: Handle>(

@@ -9,20 +9,16 @@ ghost use Rattle.acta_io.specs.Refusals.{refuses_script_on};
 ghost use Rattle.acta_io.specs.declared.input.TheConstants.{MOST_SEATS};
 
 use crate::deadlocks::put_deadlocks;
-use crate::debts::put_prospect;
-use crate::faults::{LineForm, Stop, put_stop};
-use crate::layout::{Columns, put_barred};
-use crate::lines::StepText;
-use crate::phrases::{name_text, put_numbered_edge, put_standing};
-use crate::prose::Prose;
-use crate::put;
-use crate::run_trace::{MOST_RENDERED, RunTrace};
 use acta_hope::never_begin;
 use acta_io::{
     BadLine, EventLines, Input, MOST_SEATS, NonBlankLine, Report, Script, SeatedLines, read_lines,
     read_script,
 };
 use acta_machine::Handle;
+use acta_prose::{
+    Columns, LineForm, MOST_RENDERED, Prose, RunTrace, StepText, Stop, name_text, put, put_barred,
+    put_numbered_edge, put_prospect, put_standing, put_stop,
+};
 use acta_script::{Seated, answer_line, owed_line};
 use acta_table::{Event, Model, Owed};
 use acta_trace::Step;

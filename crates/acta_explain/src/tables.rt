@@ -1,10 +1,9 @@
 //! The meaning of a rule, an axiom or a code, found by its number or its name.
 
-use crate::prose::Prose;
-use crate::put;
 use acta_axioms::Axiom;
 use acta_image::ImageFault;
 use acta_lang::Code;
+use acta_prose::{Prose, put};
 use acta_script::LineFault;
 use acta_table::{Dep, ModelFault, Rule};
 use acta_words::read_u16;

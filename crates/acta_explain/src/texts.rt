@@ -1,13 +1,9 @@
 //! Describes a faulty text of a model: where the fault is, the wrong word, what a good text has there, and the word that was
 //! perhaps meant.
 
-use crate::faults::{COMMENT, put_hint};
-use crate::phrases::name_text;
-use crate::prose::Prose;
-use crate::put;
-use crate::shown::{column_of_missing, put_shown};
 use acta_lang::{ClassLines, Expected, PartLines, TextDiagnostic, diagnose};
 use acta_machine::Handle;
+use acta_prose::{COMMENT, Prose, column_of_missing, name_text, put, put_hint, put_shown};
 use acta_script::{EVENT_KINDS, event_word};
 use acta_words::{Lines, Span, word_span, words_of};
 

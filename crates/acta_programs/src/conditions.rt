@@ -3,9 +3,9 @@
 ghost use Rattle.std.specs.Prelude.{◌≡◌, true, IfOk};
 
 use acta_ends::{ConditionFault, Expected};
-use acta_explain::{Prose, name_text, put};
 use acta_io::Report;
 use acta_machine::Handle;
+use acta_prose::{Prose, name_text, put};
 use acta_table::{Kind, Model, ObjId};
 use acta_words::words_of;
 use std::alloc::AllocError;

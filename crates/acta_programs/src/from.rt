@@ -7,10 +7,10 @@ ghost use Rattle.acta_programs.specs.From.{IsAnswerAfter, IsAnswerFrom, IsGivenU
 
 use crate::ends::{EndCount, put_ends, put_kinds};
 use crate::programs::Programs;
-use acta_explain::Prose;
 use acta_explore::{ExploreError, Explored, Plan, Point, Watch, explore_from, history_lines};
 use acta_io::non_blank_lines;
 use acta_machine::{Handle, Machine};
+use acta_prose::Prose;
 use acta_script::{ProgramLine, write_event};
 use acta_table::Items;
 use acta_words::push_line;

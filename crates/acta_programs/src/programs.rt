@@ -1,10 +1,10 @@
 //! Programs, with their lines in the input.
 
 use acta_ends::{Condition, condition_text};
-use acta_explain::{Prose, name_text, put};
 use acta_explore::{Plan, Step};
 use acta_io::NonBlankLine;
 use acta_machine::Handle;
+use acta_prose::{Prose, name_text, put};
 use acta_script::ProgramLine;
 use acta_table::Model;
 use acta_words::words_of;

@@ -1,8 +1,8 @@
 //! The number of ends of each kind.
 
-use acta_explain::{Prose, put};
 use acta_explore::{Explored, Outcome};
 use acta_machine::Handle;
+use acta_prose::{Prose, put};
 
 /// The number of ends of each kind.
 #[derive(Clone, Copy)]

@@ -1,10 +1,10 @@
 //! Why seats wait at an end, the deadlocks among them, and the debts.
 
 use crate::programs::Programs;
-use acta_explain::{Prose, Refused, RunTrace, put, put_barred, put_prospect, put_standing};
 use acta_explore::{Debt, Done, Outcome, Point, Wait, deadlock};
 use acta_hope::never_begin;
 use acta_machine::{Handle, Reason};
+use acta_prose::{Prose, Refused, RunTrace, put, put_barred, put_prospect, put_standing};
 use acta_table::{Event, Missing, OpNo, OpSet};
 
 // The operations that the event names.

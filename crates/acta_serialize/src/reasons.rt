@@ -1,9 +1,9 @@
 //! Why no order is serial, in words.
 
-use acta_explain::{Prose, name_text, put, put_lacking, put_return};
 use acta_io::NonBlankLine;
 use acta_machine::Handle;
 use acta_order::{Block, Cause, DeadEnd};
+use acta_prose::{Prose, name_text, put, put_lacking, put_return};
 use acta_table::{Event, Kept, Model, OpNo, Ret, TxnId};
 use acta_words::words_of;
 use std::alloc::AllocError;

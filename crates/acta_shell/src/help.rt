@@ -4,8 +4,8 @@ ghost use Rattle.std.specs.Prelude.{◌≡◌, IfOk};
 ghost use Rattle.std.specs.Io.{StartsWith};
 ghost use Rattle.acta_shell.specs.CommandReplies.{form_of, help_front};
 
-use acta_explain::{Prose, put};
 use acta_machine::Handle;
+use acta_prose::{Prose, put};
 use acta_script::{CAN_FORM, EVENT_KINDS, ShellKind, Topic, event_form};
 use acta_table::EventKind;
 use std::alloc::{AllocError, Allocator};

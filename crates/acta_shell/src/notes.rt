@@ -1,7 +1,7 @@
 //! The events to which replies refer: the admitted and the refused ones.
 
-use acta_explain::{LineIndex, MOST_RENDERED, StepText};
 use acta_machine::{Handle, Machine};
+use acta_prose::{LineIndex, MOST_RENDERED, StepText};
 use acta_trace::{Step, Steps};
 use std::alloc::AllocError;
 

@@ -1,12 +1,12 @@
 //! The remarks below the lines that answer a command: the same in words, with the events that caused it.
 
 use crate::notes::Notes;
-use acta_explain::{
+use acta_hope::{never_begin, operation_at};
+use acta_machine::{Handle, Machine};
+use acta_prose::{
     LineIndex, MOST_RENDERED, Prose, class_at, name_text, put, put_formed_edge, put_line_text,
     put_operation, put_prospect, put_standing,
 };
-use acta_hope::{never_begin, operation_at};
-use acta_machine::{Handle, Machine};
 use acta_script::missing_word;
 use acta_session::Remark;
 use acta_table::{OpNo, Owed, TxnId};

@@ -2,11 +2,11 @@
 
 use crate::notes::Notes;
 use crate::remarks::remark_of;
-use acta_explain::{LineForm, Prose, Refused, Stop, fault_text, name_text, put, put_formed};
 use acta_hope::why_and_hope;
 use acta_io::MOST_SEATS;
 use acta_machine::{Handle, Machine};
 use acta_objects::{Members, ObjectState};
+use acta_prose::{LineForm, Prose, Refused, Stop, fault_text, name_text, put, put_formed};
 use acta_script::{
     CAN_WORD, Diagnostic, LineFault, WordPlace, diagnose_seated, object_name, push_elements,
 };

@@ -9,10 +9,10 @@ use crate::replies::{
     admitted_text, fault_remark, program_fault_remark, question_text, refused_text,
 };
 use acta_draw::{Choice, Drawing, Form, Screen, draw_run};
-use acta_explain::{Prose, name_text};
 use acta_machine::{Handle, Machine};
 use acta_next::next_text;
 use acta_programs::{MOST_POINTS, explain_from};
+use acta_prose::{Prose, name_text};
 use acta_script::{Diagnostic, LineFault, ProgramLine, ShellCommand};
 use acta_session::{Before, Remark, Words};
 use acta_table::{Answer, Event, Model};

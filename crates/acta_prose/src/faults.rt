@@ -164,7 +164,7 @@ const CARRIAGE_RETURN: &str =
     "\nthe line ends in CR LF; here a line ends in LF alone, and the CR belongs to the last word";
 
 /// The advice if a word begins with `//`.
-pub(crate) const COMMENT: &str = "\na comment begins with `#`";
+pub const COMMENT: &str = "\na comment begins with `#`";
 
 // The advice if a line of programs or a seated line is among events.
 const SEAT: &str = "\na line that begins with a seat belongs to `explore` or `drive`";

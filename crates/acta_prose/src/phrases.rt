@@ -3,6 +3,7 @@
 use crate::lines::{LineIndex, LineText};
 use crate::prose::Prose;
 use crate::put;
+use acta_args::ModelName;
 use acta_machine::Handle;
 use acta_script::{EVENT_KINDS, OpKind, RETURN_WORDS, event_word};
 use acta_table::{
@@ -16,6 +17,14 @@ const MOST_OF_EVENT: usize = 60;
 /// A name of a model, as text.
 pub fn name_text(name: &[u8]) -> &str {
     std::str::from_utf8(name).unwrap_or("?")
+}
+
+/// Adds a model's name as a command line has it.
+pub fn put_model_name<A: Handle>(prose: Prose<A>, name: ModelName<'_>) -> Prose<A> {
+    match name {
+        ModelName::Standard(standard) => put!(prose; "@", standard.name()),
+        ModelName::Path(path) => prose.put(path),
+    }
 }
 
 /// The word by which a class allows events of this kind, in its `starts` or `may` line.
