@@ -1,7 +1,5 @@
-//! A book shared by many workers: each event is taken under one lock, and the book is a run of its entries' events. Workers
-//! submit their scripts at desks, and a driven run returns to each its part of the book.
-//!
-//! A call that allocates returns `Err` if memory runs out.
+//! A book shared by many workers, who submit scripts at desks: each event is taken under one lock. A driven run returns to
+//! each worker its part of the book. A call that allocates returns `Err` if memory runs out.
 #![tactic(auto)]
 
 mod book;
