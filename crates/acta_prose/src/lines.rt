@@ -1,6 +1,11 @@
 //! The words of lines, and the lines to which a sentence refers: that of an operation, of an edge, or of the event that
 //! began or ended a transaction.
 
+ghost use Rattle.std.specs.Prelude.{◌≡◌, ◌-◌, ℕ, Some, IfSome, slice_get};
+ghost use Rattle.std.specs.List.{position};
+ghost use Rattle.acta_trace.specs.Steps.{begins, does, ends, forms};
+ghost use Rattle.acta_prose.specs.Runs.{line_at};
+
 use crate::phrases::name_text;
 use crate::prose::Prose;
 use crate::put;
@@ -66,7 +71,9 @@ pub struct LineIndex<'a, A: Handle> {
 
 impl<'a, A: Handle> LineIndex<'a, A> {
     /// The line of the step at this place, from 0.
-    pub fn at(&self, place: usize) -> Option<LineText<'a>> {
+    pub fn at(&self, place: usize) -> Option<LineText<'a>>
+        ensures { IfSome result (λ text. line_at self.now.steps.now.steps place ≡ Some text.line) }
+    {
         let step = self.steps.as_slice().get(place)?;
         let text = self.texts.get(place)?;
         Some(LineText {
@@ -77,27 +84,37 @@ impl<'a, A: Handle> LineIndex<'a, A> {
     }
 
     /// The line that did the operation.
-    pub fn operation(&self, op: OpNo) -> Option<LineText<'a>> {
+    pub fn operation(&self, op: OpNo) -> Option<LineText<'a>>
+        ensures { IfSome result (λ text. (place : ℕ) → position (does op.0) self.now.steps.now.steps ≡ Some place → line_at self.now.steps.now.steps place ≡ Some text.line) }
+    {
         self.at(self.steps.operation(op)?)
     }
 
     /// The line that formed the edge with this number.
-    pub fn edge_line(&self, number: u64) -> Option<LineText<'a>> {
+    pub fn edge_line(&self, number: u64) -> Option<LineText<'a>>
+        ensures { IfSome result (λ text. (place : ℕ) → position (forms number) self.now.steps.now.steps ≡ Some place → line_at self.now.steps.now.steps place ≡ Some text.line) }
+    {
         self.at(self.steps.edge(u32::try_from(number).ok()?)?)
     }
 
     /// The edge with this number.
-    pub fn edge(&self, number: u64) -> Option<&'a Edge> {
+    pub fn edge(&self, number: u64) -> Option<&'a Edge>
+        ensures { IfSome result (λ edge. slice_get self.now.edges.now (number - 1) ≡ Some edge.now) }
+    {
         self.edges.get((number as usize).checked_sub(1)?)
     }
 
     /// The line that began the transaction.
-    pub fn begin(&self, t: TxnId) -> Option<LineText<'a>> {
+    pub fn begin(&self, t: TxnId) -> Option<LineText<'a>>
+        ensures { IfSome result (λ text. (place : ℕ) → position (begins t.0) self.now.steps.now.steps ≡ Some place → line_at self.now.steps.now.steps place ≡ Some text.line) }
+    {
         self.at(self.steps.begin_of(t)?)
     }
 
     /// The line that ended the transaction.
-    pub fn end(&self, t: TxnId) -> Option<LineText<'a>> {
+    pub fn end(&self, t: TxnId) -> Option<LineText<'a>>
+        ensures { IfSome result (λ text. (place : ℕ) → position (ends t.0) self.now.steps.now.steps ≡ Some place → line_at self.now.steps.now.steps place ≡ Some text.line) }
+    {
         self.at(self.steps.end_of(t)?)
     }
 }

@@ -1,5 +1,11 @@
 //! A run in words, event by event: its steps, and the words of each.
 
+ghost use Rattle.std.specs.Prelude.{◌≡◌, not, map, IfOk, OnOk};
+ghost use Rattle.acta_machine.specs.Table.{edges_in};
+ghost use Rattle.acta_trace.specs.Steps.{is_admitted};
+ghost use Rattle.acta_trace.specs.Traces.{not_begun};
+ghost use Rattle.acta_prose.specs.Runs.{noted, noted_all};
+
 use crate::lines::{LineIndex, StepText};
 use crate::listing::MOST_LISTED;
 use crate::phrases::{first_named, put_edges};
@@ -25,6 +31,7 @@ const MOST_REFUSED: usize = 64;
 const MOST_LOOKS: usize = 2_000_000;
 
 /// A run so far, in words. An event that was refused since the last admitted one is refused again for the same reason.
+/// Contracts see the machine and the steps.
 #[derive(Drop)]
 pub struct RunTrace<A: Handle> {
     alloc: A,
@@ -40,9 +47,31 @@ pub struct RunTrace<A: Handle> {
     looks_left: usize,
 }
 
+// Whether the answer is a refusal.
+fn is_refused(answer: &Answer) -> bool
+    ensures { result ≡ not (is_admitted answer.now) }
+{
+    matches!(answer, Answer::Refused { .. })
+}
+
+impl<A: Handle> std::marker::Model for RunTrace<A> {
+    ghost use Rattle.std.specs.Prelude.{◌≡◌};
+    ghost use Rattle.acta_trace.specs.Traces.{Run};
+    ghost use Rattle.acta_prose.specs.Runs.{count_refused};
+
+    ghost Value = { Run A };
+
+    ghost view = { λ run. run.trace };
+
+    ghost invariant = { λ run. run.refused_steps ≡ count_refused run.trace.steps };
+}
+
 impl<A: Handle> RunTrace<A> {
     /// The run before any event.
-    pub fn new(alloc: A, model: Model<A>) -> Result<RunTrace<A>, AllocError> {
+    #[tactic(auto, unfolding(crate::specs::Runs::count_refused))]
+    pub fn new(alloc: A, model: Model<A>) -> Result<RunTrace<A>, AllocError>
+        ensures { IfOk result (λ run. run ≡ not_begun model) }
+    {
         Ok(RunTrace {
             alloc,
             trace: Trace::new(alloc, model)?,
@@ -61,12 +90,16 @@ impl<A: Handle> RunTrace<A> {
     }
 
     /// The machine that has taken the events.
-    pub fn machine(&self) -> &Machine<A> {
+    pub fn machine(&self) -> &Machine<A>
+        ensures { result.now ≡ self.now.state }
+    {
         self.trace.machine()
     }
 
     /// The steps.
-    pub fn steps(&self) -> &[Step<A>] {
+    pub fn steps(&self) -> &[Step<A>]
+        ensures { result.now ≡ self.now.steps }
+    {
         self.trace.steps().as_slice()
     }
 
@@ -76,7 +109,10 @@ impl<A: Handle> RunTrace<A> {
     }
 
     /// The steps with their words.
-    pub fn lines(&self) -> LineIndex<'_, A> {
+    pub fn lines(&self) -> LineIndex<'_, A>
+        ensures steps { result.steps.now.steps ≡ self.now.steps }
+        ensures edges { result.edges.now ≡ edges_in self.now.state }
+    {
         LineIndex {
             noun: "line",
             steps: self.trace.steps(),
@@ -86,7 +122,9 @@ impl<A: Handle> RunTrace<A> {
     }
 
     /// The steps, indexed by what they began and ended.
-    pub fn trace(&self) -> &Trace<A> {
+    pub fn trace(&self) -> &Trace<A>
+        ensures { result.now ≡ self.now }
+    {
         &self.trace
     }
 
@@ -100,38 +138,77 @@ impl<A: Handle> RunTrace<A> {
         &mut self,
         events: Vec<Event<A>, A>,
         lines: &[NonBlankLine<'_>],
-    ) -> Result<(), AllocError> {
-        for (event, line) in events.into_iter().zip(lines) {
+    ) -> Result<(), AllocError>
+        ensures { OnOk result (self.new ≡ noted_all self.old (map (λ line. line.line) lines.now) events.items) }
+    {
+        let mut next = 0;
+        for event in events {
+            let Some(line) = lines.get(next) else {
+                return Ok(());
+            };
             self.take(*line, event)?;
+            next += 1;
         }
         Ok(())
     }
 
     /// Takes the event of the line. A refused event gets a step only if fewer than `MOST_RENDERED` refused ones have one.
-    pub fn take(&mut self, line: NonBlankLine<'_>, event: Event<A>) -> Result<(), AllocError> {
-        let is_kept = self.refused_steps < MOST_RENDERED;
+    pub fn take(&mut self, line: NonBlankLine<'_>, event: Event<A>) -> Result<(), AllocError>
+        ensures { OnOk result (self.new ≡ noted self.old line.entry.line event) }
+    {
         let t = first_named(&event);
         let place = self.steps().len();
-        let reason = match self.trace.take(line.line, event, is_kept)? {
-            Answer::Admitted { .. } => {
-                self.refused.clear();
-                if let Some(last) = self.blocked.get_mut(t.0 as usize) {
-                    *last = None;
-                }
-                String::new(self.alloc)
-            }
-            Answer::Refused { .. } if !is_kept => {
-                self.skipped = self.skipped.saturating_add(1);
-                return Ok(());
-            }
-            Answer::Refused { rule, .. } => {
-                self.refused_steps = self.refused_steps.saturating_add(1);
-                self.block(t, place)?;
-                self.reason_at(place, rule)?
-            }
-        };
+        let answer = self.take_event(line.line, event)?;
+        if self.steps().len() == place {
+            self.skipped = self.skipped.saturating_add(1);
+            return Ok(());
+        }
+        let reason = self.reason_for(t, place, answer)?;
         self.texts.push(StepText::of(self.alloc, line, reason)?)?;
         Ok(())
+    }
+
+    // Takes the event of the line, and returns the answer.
+    #[tactic(auto, using(crate::proofs::Counted::counted))]
+    fn take_event(&mut self, line: usize, event: Event<A>) -> Result<Answer, AllocError>
+        ensures { OnOk result (self.new ≡ noted self.old line event) }
+    {
+        let is_kept = self.refused_steps < MOST_RENDERED;
+        let answer = self.trace.take(line, event, is_kept)?;
+        self.refused_steps += usize::from(is_kept && is_refused(&answer));
+        Ok(answer)
+    }
+
+    // Why the event of the step at this place was refused, in lines; nothing if it was admitted. The transaction is noted
+    // as refused or not.
+    fn reason_for(
+        &mut self,
+        t: TxnId,
+        place: usize,
+        answer: Answer,
+    ) -> Result<String<A>, AllocError>
+        ensures { self.new ≡ self.old }
+    {
+        match answer {
+            Answer::Admitted { .. } => {
+                self.unblock(t);
+                Ok(String::new(self.alloc))
+            }
+            Answer::Refused { rule, .. } => {
+                self.block(t, place)?;
+                self.reason_at(place, rule)
+            }
+        }
+    }
+
+    // Notes that the last event of the transaction was admitted. No earlier refusal counts any more.
+    fn unblock(&mut self, t: TxnId)
+        ensures { self.new ≡ self.old }
+    {
+        self.refused.clear();
+        if let Some(last) = self.blocked.get_mut(t.0 as usize) {
+            *last = None;
+        }
     }
 
     /// The last event of the transaction, if that was refused, and the place of its step.
@@ -148,7 +225,9 @@ impl<A: Handle> RunTrace<A> {
     }
 
     // Notes the step at this place, which was refused, as the last of the transaction.
-    fn block(&mut self, t: TxnId, place: usize) -> Result<(), AllocError> {
+    fn block(&mut self, t: TxnId, place: usize) -> Result<(), AllocError>
+        ensures { self.new ≡ self.old }
+    {
         if t.0 > LAST_TXN {
             return Ok(());
         }
@@ -170,23 +249,41 @@ impl<A: Handle> RunTrace<A> {
         None
     }
 
+    // Remembers the refused step at this place, unless too many are.
+    fn remember(&mut self, place: usize) -> Result<(), AllocError>
+        ensures { self.new ≡ self.old }
+    {
+        if self.refused.len() < MOST_REFUSED {
+            self.refused.push(place)?;
+        }
+        Ok(())
+    }
+
+    // Whether a refusal by this rule may look for transactions that wait for each other.
+    fn may_look(&mut self, rule: Rule) -> bool
+        ensures { self.new ≡ self.old }
+    {
+        let looks = self.machine().edges().len();
+        let may_look = looks <= self.looks_left;
+        if rule == Rule::TerminationDep {
+            self.looks_left = self.looks_left.saturating_sub(looks);
+        }
+        may_look
+    }
+
     // Why this rule refuses the event of the step at this place, in lines. The step is remembered in case the event comes
     // again.
-    fn reason_at(&mut self, place: usize, rule: Rule) -> Result<String<A>, AllocError> {
+    fn reason_at(&mut self, place: usize, rule: Rule) -> Result<String<A>, AllocError>
+        ensures { self.new ≡ self.old }
+    {
         let prose = Prose::new(self.alloc);
         if let Some(text) = self.refused_before(place) {
             return prose.put(text.reason.as_str()).done();
         }
-        if self.refused.len() < MOST_REFUSED {
-            self.refused.push(place)?;
-        }
-        let looks = self.machine().edges().len();
-        let looks_for_waits = looks <= self.looks_left;
-        if rule == Rule::TerminationDep {
-            self.looks_left = self.looks_left.saturating_sub(looks);
-        }
+        self.remember(place)?;
+        let may_look = self.may_look(rule);
         match self.steps().get(place) {
-            Some(step) => self.put_reason(prose, &step.event, looks_for_waits).done(),
+            Some(step) => self.put_reason(prose, &step.event, may_look).done(),
             None => prose.done(),
         }
     }

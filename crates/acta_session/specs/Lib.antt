@@ -1,4 +1,5 @@
 pub mod Dialogues
+pub mod Help
 pub mod Remarks
 pub mod Replies
 pub mod Shells

@@ -21,6 +21,7 @@ use Rattle.acta_trace.specs.States.{ArePermitLines, edge_lines, operations_line,
 use Rattle.acta_debug.specs.Sessions.{Session}
 use Rattle.acta_session.specs.declared.typed.Typed.{Typed}
 use Rattle.acta_session.specs.declared.typed.Typed.TheVariants.{Comment, End, Line, Faulty}
+use Rattle.acta_session.specs.Help.{IsHelp}
 use Rattle.acta_session.specs.Remarks.{AreRemarked, IsRemarked}
 use Rattle.acta_session.specs.Shells.{ShellState, can_move, place_after, state_of, typed_of}
 
@@ -113,7 +114,7 @@ SaysOf says s Explore text = text.items ≡ text_of (explore_line ∷ [])
 SaysOf says s (Why n) text = SaysWhy s.refusals (item_at s.refusals (refusal_number s.refusals n)) text.items
 SaysOf says s Draw text = says (state_of s.session) Draw text
 SaysOf says s (Next t) text = says (state_of s.session) (Next t) text
-SaysOf says s (Help topic) text = says (state_of s.session) (Help topic) text
+SaysOf says s (Help topic) text = IsHelp topic text.items
 SaysOf says s Quit text = text.items ≡ []
 SaysOf says s c text = AreRemarked (lines_for s.session c) text.items
 

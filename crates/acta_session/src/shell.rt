@@ -15,6 +15,7 @@ ghost use Rattle.acta_session.specs.Remarks.{AreRemarked, IsRemarked};
 ghost use Rattle.acta_session.specs.Replies.{IsReply, Says, SaysFault, SaysOf, SaysTyped, SaysWhy, after_answer, after_name, lines_for, move_line, no_move_line, refusal_number};
 ghost use Rattle.acta_session.specs.Shells.{after_command, after_event, after_line, after_parsed, after_typed, begun, can_move, moved, place_after, quits, quits_by, refusal_by, state_of, typed_of};
 
+use crate::help::help_text;
 use crate::moves::{explore_text, left_text, place_text, places_text, refused_text};
 use crate::remarks::{Remark, push_bars, remarked};
 use crate::typed::{Typed, typed_of};
@@ -440,9 +441,8 @@ impl<A: Handle, W: Words<Event<A>, Machine<A>, Model<A>, ProgramLine<A>, Vec<u8,
             ShellCommand::Permits => self.permits(),
             ShellCommand::Explore => self.explore(),
             ShellCommand::Why(number) => self.why(number),
-            ShellCommand::Draw | ShellCommand::Next(_) | ShellCommand::Help(_) => self.words_of(
-                command,
-            ),
+            ShellCommand::Draw | ShellCommand::Next(_) => self.words_of(command),
+            ShellCommand::Help(topic) => help_text(self.alloc, topic),
             ShellCommand::Quit => Ok(Vec::new(self.alloc)),
             _ => self.say(command),
         }

@@ -74,7 +74,7 @@ pub trait Words<E, M, D, P, T: Drop>: Drop {
     /// The words below the lines of a command that asks for the state.
     fn of_state(&mut self, machine: &M, command: ShellCommand) -> Result<T, AllocError>;
 
-    /// The reply to a command without lines of its own: `draw`, `next` or `help`.
+    /// The reply to a command without lines of its own: `draw` or `next`.
     fn of_command(&mut self, machine: &M, command: ShellCommand) -> Result<T, AllocError>
         ensures { IfOk result (says machine.now command) };
 

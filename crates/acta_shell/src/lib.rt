@@ -7,7 +7,6 @@
 #![tactic(auto)]
 
 mod args;
-mod help;
 mod notes;
 mod remarks;
 mod replies;

@@ -1,6 +1,5 @@
 //! The words of a session.
 
-use crate::help::help_text;
 use crate::notes::Notes;
 use crate::remarks::{
     conflicts_remark, edges_remark, held_remark, owed_remark, refusal_remark, status_remark,
@@ -142,7 +141,6 @@ impl<A: Handle> Words<Event<A>, Machine<A>, Model<A>, ProgramLine<A>, Vec<u8, A>
         match command {
             ShellCommand::Draw => self.picture(machine),
             ShellCommand::Next(t) => next_text(self.notes.allocator(), machine, t),
-            ShellCommand::Help(topic) => help_text(self.notes.allocator(), topic),
             _ => Ok(Vec::new(self.notes.allocator())),
         }
     }
