@@ -1,10 +1,8 @@
 //! The run of an input as lanes and rows: a row for each event with its answer, what it formed and why it was refused,
 //! and for each transaction from which row to which its lane goes.
 
-ghost use Rattle.std.specs.Prelude.{◌≡◌, ◌++◌, Some, None, false, map, slice_get, IfOk, IfSome, OnOk};
-ghost use Rattle.acta_trace.specs.Traces.{not_begun};
-ghost use Rattle.acta_prose.specs.Runs.{noted, noted_all};
-ghost use Rattle.acta_draw.specs.Rows.{place_after, places_from, returned};
+ghost use Rattle.std.specs.Prelude.{◌≡◌};
+ghost use Rattle.acta_draw.specs.Rows.{place_after, returned};
 
 use crate::blockers::{Blocker, Blockers, blockers_of};
 use crate::marks::{Figure, figure_of};
@@ -105,10 +103,7 @@ impl<A: Handle> Lanes<A> {
         model: Model<A>,
         read: Input<'_, Event<A>, A>,
         last: Option<u32>,
-    ) -> Result<Lanes<A>, AllocError>
-        ensures run { last ≡ None → IfOk result (λ lanes. lanes.run ≡ noted_all (not_begun model) (map (λ line. line.line) read.lines.items) read.parsed.items) }
-        ensures places { IfOk result (λ lanes. lanes.places.items ≡ places_from 0 lanes.run.steps) }
-    {
+    ) -> Result<Lanes<A>, AllocError> {
         let Input {
             parsed,
             lines,
@@ -135,28 +130,18 @@ impl<A: Handle> Lanes<A> {
         events: Vec<Event<A>, A>,
         lines: &[NonBlankLine<'_>],
         last: Option<u32>,
-    ) -> Result<(), AllocError>
-        ensures run { last ≡ None → OnOk result (self.new.run ≡ noted_all self.old.run (map (λ line. line.line) lines.now) events.items) }
-        ensures places { self.new.places ≡ self.old.places }
-    {
-        let mut next = 0;
-        for event in events {
-            let Some(line) = lines.get(next) else {
-                return Ok(());
-            };
+    ) -> Result<(), AllocError> {
+        for (event, line) in events.into_iter().zip(lines) {
             if self.is_after(last, &event)? {
                 return Ok(());
             }
             self.take(*line, event)?;
-            next += 1;
         }
         Ok(())
     }
 
     // Whether the event would have a place after the last one.
-    fn is_after(&self, last: Option<u32>, event: &Event<A>) -> Result<bool, AllocError>
-        ensures { last ≡ None → IfOk result (λ is_after. is_after ≡ false) }
-    {
+    fn is_after(&self, last: Option<u32>, event: &Event<A>) -> Result<bool, AllocError> {
         let machine = self.run.machine();
         match last {
             Some(last) if machine.history().len() >= last as usize => {
@@ -167,10 +152,7 @@ impl<A: Handle> Lanes<A> {
     }
 
     // Takes the event that the line says.
-    fn take(&mut self, line: NonBlankLine<'_>, event: Event<A>) -> Result<(), AllocError>
-        ensures run { OnOk result (self.new.run ≡ noted self.old.run line.entry.line event) }
-        ensures places { self.new.places ≡ self.old.places }
-    {
+    fn take(&mut self, line: NonBlankLine<'_>, event: Event<A>) -> Result<(), AllocError> {
         self.run.take(line, event)?;
         let machine = self.run.machine();
         let blockers = match self.run.steps().get(self.blockers.len()) {
@@ -183,10 +165,7 @@ impl<A: Handle> Lanes<A> {
     }
 
     // Notes the place of each row.
-    fn note_places(&mut self) -> Result<(), AllocError>
-        ensures run { self.new.run ≡ self.old.run }
-        ensures places { OnOk result (self.new.places.items ≡ self.old.places.items ++ places_from 0 self.old.run.steps) }
-    {
+    fn note_places(&mut self) -> Result<(), AllocError> {
         let mut last = 0u32;
         for step in self.run.steps() {
             let place = place_after(last, &step.answer);
@@ -213,10 +192,7 @@ impl<A: Handle> Lanes<A> {
     }
 
     /// The row of this number.
-    pub fn row(&self, number: usize) -> Option<Row<'_, A>>
-        ensures step { IfSome result (λ row. slice_get self.now.run.steps number ≡ Some row.step.now) }
-        ensures place { IfSome result (λ row. slice_get self.now.places.items number ≡ Some row.place) }
-    {
+    pub fn row(&self, number: usize) -> Option<Row<'_, A>> {
         let step = self.run.steps().get(number)?;
         let machine = self.run.machine();
         let heir = match &step.event {
