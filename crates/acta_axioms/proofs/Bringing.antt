@@ -16,7 +16,7 @@ use Rattle.acta_table.specs.declared.event.TxnId.{TxnId}
 use Rattle.acta_table.specs.declared.model.Parts.{Parts}
 use Rattle.acta_table.specs.Sets.{is_named}
 use Rattle.acta_sets.specs.declared.held_op.HeldOp.{HeldOp}
-use Rattle.acta_axioms.specs.History.{places_behind, places}
+use Rattle.acta_axioms.specs.History.{places_after, places}
 use Rattle.acta_axioms.specs.Operations.{Operation, is_operate, number_after, operation_in, operation_at, operations, Standing, held_by, ended_by, heir, followed, carried, standing, standing_of}
 use Rattle.acta_axioms.specs.Walks.{held_op, held_ops}
 use Rattle.acta_axioms.specs.inside.Holding.{in_hand, brought, brought_from, op_done, followed_on, next_number}
@@ -61,12 +61,12 @@ brought-carried {A} m h k o s = of_fate s.fate
 
 -- the operations are numbered from 1
 brought-numbered : {A B : Type 0} (left : Option TxnId) (e : Event B) (show : Operation → HeldOp) (before ks : List (Kept A)) →
-    brought_from left e (number_after before) (map show (filter_map operation_at (places_behind before ks))) ≡ map (λ o. brought left e o.number (show o)) (filter_map operation_at (places_behind before ks))
+    brought_from left e (number_after before) (map show (filter_map operation_at (places_after before ks))) ≡ map (λ o. brought left e o.number (show o)) (filter_map operation_at (places_after before ks))
 brought-numbered left e show before [] = refl
 brought-numbered {A} left e show before (k ∷ ks) = of_event k.event (number_after-push before k) (brought-numbered left e show (before ++ k ∷ []) ks)
   where
     rest : List Operation
-    rest = filter_map operation_at (places_behind (before ++ k ∷ []) ks)
+    rest = filter_map operation_at (places_after (before ++ k ∷ []) ks)
 
     of_event : (f : Event A) → number_after (before ++ k ∷ []) ≡ number_after before + cond (is_operate f) 1 0 →
         brought_from left e (number_after (before ++ k ∷ [])) (map show rest) ≡ map (λ o. brought left e o.number (show o)) rest →

@@ -10,7 +10,7 @@ use Rattle.acta_table.specs.declared.event.Event.TheVariants.{Operate}
 use Rattle.acta_table.specs.declared.event.Kept.{Kept}
 use Rattle.acta_table.specs.declared.event.Ret.{Ret}
 use Rattle.acta_table.specs.declared.model.Parts.{Parts}
-use Rattle.acta_axioms.specs.History.{places_behind}
+use Rattle.acta_axioms.specs.History.{places_after}
 use Rattle.acta_axioms.specs.Operations.{Operation, Standing, operation_at, operation_in, operations, standing}
 use Rattle.acta_axioms.specs.Faults.{faults_at, faults_in_places}
 use Rattle.acta_axioms.proofs.Faultless.{IsFaultless, faultless-from, none-both}
@@ -26,14 +26,14 @@ record IsSound {A : Type 0} (m : Parts A) (o : Operation) : Type 0 where
   pub returned : is_some o.ret ≡ true
   pub object : o.object < length m.objects
 
-all-sound : {A : Type 0} (m : Parts A) (front ks : List (Kept A)) → flat_map (faults_at m) (places_behind front ks) ≡ [] → AllByRecursion (IsSound m) (filter_map operation_at (places_behind front ks))
+all-sound : {A : Type 0} (m : Parts A) (front ks : List (Kept A)) → flat_map (faults_at m) (places_after front ks) ≡ [] → AllByRecursion (IsSound m) (filter_map operation_at (places_after front ks))
 all-sound m front [] none = tt
 all-sound {A} m front (k ∷ ks) none =
-    let both = none-both (faults_at m (at_end front k)) (flat_map (faults_at m) (places_behind (front ++ k ∷ []) ks)) none in
+    let both = none-both (faults_at m (at_end front k)) (flat_map (faults_at m) (places_after (front ++ k ∷ []) ks)) none in
     of k.event (faultless-from m front k both.0) (all-sound m (front ++ k ∷ []) ks both.1)
   where
-    of : (e : Event A) → IsFaultless m front (record { event = e; ret = k.ret }) → AllByRecursion (IsSound m) (filter_map operation_at (places_behind (front ++ k ∷ []) ks))
-        → AllByRecursion (IsSound m) (cons_option (operation_in (at_end front k) e) (filter_map operation_at (places_behind (front ++ k ∷ []) ks)))
+    of : (e : Event A) → IsFaultless m front (record { event = e; ret = k.ret }) → AllByRecursion (IsSound m) (filter_map operation_at (places_after (front ++ k ∷ []) ks))
+        → AllByRecursion (IsSound m) (cons_option (operation_in (at_end front k) e) (filter_map operation_at (places_after (front ++ k ∷ []) ks)))
     of (Operate t ob op) fine later = (record { returned = returned-some m front k.ret t ob op fine.form_of_event fine.return; object = object-there m t ob op fine.form_of_event }, later)
     of _ fine later = later
 

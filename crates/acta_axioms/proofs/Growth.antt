@@ -16,7 +16,7 @@ use Rattle.acta_table.specs.declared.model.Class.{Class}
 use Rattle.acta_table.specs.declared.model.Parts.{Parts}
 use Rattle.acta_table.specs.Events.{class_named}
 use Rattle.acta_table.specs.Classes.{class_at}
-use Rattle.acta_axioms.specs.History.{Place, number, places_behind, places, first, starts, commits, aborts, joins, course, has_begun, class_number, class_of, spawner, parent_of}
+use Rattle.acta_axioms.specs.History.{Place, number, places_after, places, first, starts, commits, aborts, joins, course, has_begun, class_number, class_of, spawner, parent_of}
 use Rattle.acta_axioms.specs.Operations.{Operation, is_operate, number_after, operation_in, operation_at, operations, Standing, held_by, carried, standing}
 use Rattle.acta_axioms.specs.Faults.{faults_at, faults_in_places}
 
@@ -33,21 +33,21 @@ found-passes test P (y ∷ ys) x all is = here (test y) refl is (found-passes te
 abbrev pub at_end : {A : Type 0} → List (Kept A) → Kept A → Place A
 at_end h k = record { before = h; kept = k }
 
-pub places_behind-append : {A : Type 0} (before xs ys : List (Kept A)) → places_behind before (xs ++ ys) ≡ places_behind before xs ++ places_behind (before ++ xs) ys
-places_behind-append before [] ys = ap (λ b. places_behind b ys) (sym (append-nil before))
-places_behind-append before (x ∷ xs) ys =
+pub places_after-append : {A : Type 0} (before xs ys : List (Kept A)) → places_after before (xs ++ ys) ≡ places_after before xs ++ places_after (before ++ xs) ys
+places_after-append before [] ys = ap (λ b. places_after b ys) (sym (append-nil before))
+places_after-append before (x ∷ xs) ys =
     ap (λ ps. record { before = before; kept = x } ∷ ps)
-    (places_behind-append (before ++ x ∷ []) xs ys ∙ ap (λ b. places_behind (before ++ x ∷ []) xs ++ places_behind b ys) (append_assoc before (x ∷ []) xs))
+    (places_after-append (before ++ x ∷ []) xs ys ∙ ap (λ b. places_after (before ++ x ∷ []) xs ++ places_after b ys) (append_assoc before (x ∷ []) xs))
 
 pub places-push : {A : Type 0} (h : List (Kept A)) (k : Kept A) → places (h ++ k ∷ []) ≡ places h ++ at_end h k ∷ []
-places-push h k = places_behind-append [] h (k ∷ [])
+places-push h k = places_after-append [] h (k ∷ [])
 
-length-places_behind : {A : Type 0} (before h : List (Kept A)) → length (places_behind before h) ≡ length h
-length-places_behind before [] = refl
-length-places_behind before (k ∷ ks) = ap suc (length-places_behind (before ++ k ∷ []) ks)
+length-places_after : {A : Type 0} (before h : List (Kept A)) → length (places_after before h) ≡ length h
+length-places_after before [] = refl
+length-places_after before (k ∷ ks) = ap suc (length-places_after (before ++ k ∷ []) ks)
 
 pub length-places : {A : Type 0} (h : List (Kept A)) → length (places h) ≡ length h
-length-places h = length-places_behind [] h
+length-places h = length-places_after [] h
 
 pub first-push : {A : Type 0} (test : Event A → Bool) (h : List (Kept A)) (k : Kept A) → first test (h ++ k ∷ []) ≡ option_or (first test h) (cond (test k.event) (Some (at_end h k)) None)
 first-push test h k = ap (find (λ p. test p.kept.event)) (places-push h k) ∙ find-append (λ p. test p.kept.event) (places h) (at_end h k ∷ [])
@@ -176,7 +176,7 @@ filter_map-within : {X Y : Type 0} (P : X → Type 0) (Q : Y → Type 0) (f : X 
 filter_map-within P Q f step [] none = tt
 filter_map-within P Q f step (x ∷ xs) all = cons_option-all Q (f x) (filter_map f xs) (λ y e. step x y all.0 e) (filter_map-within P Q f step xs all.1)
 
-pub places_within : {A : Type 0} (n : ℕ) (before h : List (Kept A)) → length before + length h ≤ n → AllByRecursion (λ p. number p ≤ n) (places_behind before h)
+pub places_within : {A : Type 0} (n : ℕ) (before h : List (Kept A)) → length before + length h ≤ n → AllByRecursion (λ p. number p ≤ n) (places_after before h)
 places_within n before [] fits = tt
 places_within n before (k ∷ ks) fits =
     let grown = length_push before k in
@@ -214,13 +214,13 @@ shown-push show m h k =
 -- ancestors: parents start earlier, so the ancestors of a transaction that has begun stay the same
 
 -- the items before a place are a prefix of the history
-places_fronts : {A : Type 0} (before h : List (Kept A)) → AllByRecursion (λ (p : Place A). (rest : List (Kept A)) × (before ++ h ≡ p.before ++ rest)) (places_behind before h)
+places_fronts : {A : Type 0} (before h : List (Kept A)) → AllByRecursion (λ (p : Place A). (rest : List (Kept A)) × (before ++ h ≡ p.before ++ rest)) (places_after before h)
 places_fronts {A} before [] = tt
 places_fronts {A} before (k ∷ ks) =
-    ((k ∷ ks, refl), subst (λ g. AllByRecursion (λ (p : Place A). (rest : List (Kept A)) × (g ≡ p.before ++ rest)) (places_behind (before ++ k ∷ []) ks)) (append_assoc before (k ∷ []) ks) (places_fronts (before ++ k ∷ []) ks))
+    ((k ∷ ks, refl), subst (λ g. AllByRecursion (λ (p : Place A). (rest : List (Kept A)) × (g ≡ p.before ++ rest)) (places_after (before ++ k ∷ []) ks)) (append_assoc before (k ∷ []) ks) (places_fronts (before ++ k ∷ []) ks))
 
-pub first-append : {A : Type 0} (test : Event A → Bool) (xs ys : List (Kept A)) → first test (xs ++ ys) ≡ option_or (first test xs) (find (λ p. test p.kept.event) (places_behind xs ys))
-first-append test xs ys = ap (find (λ p. test p.kept.event)) (places_behind-append [] xs ys) ∙ find-append (λ p. test p.kept.event) (places xs) (places_behind xs ys)
+pub first-append : {A : Type 0} (test : Event A → Bool) (xs ys : List (Kept A)) → first test (xs ++ ys) ≡ option_or (first test xs) (find (λ p. test p.kept.event) (places_after xs ys))
+first-append test xs ys = ap (find (λ p. test p.kept.event)) (places_after-append [] xs ys) ∙ find-append (λ p. test p.kept.event) (places xs) (places_after xs ys)
 
 -- t started at a place up to n
 abbrev pub HasStartedBy : {A : Type 0} → List (Kept A) → ℕ → ℕ → Type 0
@@ -238,7 +238,7 @@ started_within {A} h t begun = of_first (first (starts t) h) refl begun
 front_start : {A : Type 0} (xs ys : List (Kept A)) (t : ℕ) → has_begun xs t ≡ true → HasStartedBy (xs ++ ys) t (length xs)
 front_start {A} xs ys t begun =
     let at = started_within xs t begun in
-    (at.0, ap (option_map number) (first-append (starts t) xs ys) ∙ kept_first (first (starts t) xs) (find (λ p. starts t p.kept.event) (places_behind xs ys)) at.0 at.1, at.2)
+    (at.0, ap (option_map number) (first-append (starts t) xs ys) ∙ kept_first (first (starts t) xs) (find (λ p. starts t p.kept.event) (places_after xs ys)) at.0 at.1, at.2)
   where
     kept_first : (o p : Option (Place A)) (i : ℕ) → option_map number o ≡ Some i → option_map number (option_or o p) ≡ Some i
     kept_first None p i is = absurd (none-some i is)

@@ -16,7 +16,7 @@ use Rattle.acta_axioms.specs.declared.course.Course.{Course}
 use Rattle.acta_axioms.specs.Permits.{has_permitted, is_permitted}
 use Rattle.acta_axioms.specs.Claims.{status_at}
 use Rattle.acta_axioms.specs.inside.TxnRecords.{is_late}
-use Rattle.acta_axioms.specs.inside.Walking.{permits_behind, is_left}
+use Rattle.acta_axioms.specs.inside.Walking.{permits_after, is_left}
 use Rattle.acta_axioms.proofs.Growth.{ends, or_here, course-push}
 use Rattle.acta_axioms.proofs.ValueGrowth.{eqb-turned}
 use Rattle.acta_axioms.proofs.Statuses.{when_begun, when_aborted, when_joined, status_after, status_at-push, is_ended_status, has_ended-status}
@@ -104,7 +104,7 @@ with_one true p a b late lateness =
     of false false false = refl
 
 -- the permits that can still be in force
-pub left-push : {A : Type 0} (h : List (Kept A)) (k : Kept A) (s t object : ℕ) → is_left (h ++ k ∷ []) s t object ≡ permits_behind (is_late (has_ended h) k.event) k.event (is_left h) s t object
+pub left-push : {A : Type 0} (h : List (Kept A)) (k : Kept A) (s t object : ℕ) → is_left (h ++ k ∷ []) s t object ≡ permits_after (is_late (has_ended h) k.event) k.event (is_left h) s t object
 unfolding is_left
 left-push {A} h k s t object =
     (λ i. has_permitted-push h k s t object i && not (has_ended-push h k s i) && not (has_ended-push h k t i)) ∙ of_event k.event
@@ -128,7 +128,7 @@ left-push {A} h k s t object =
     applied true f g = refl
     applied false f g = refl
 
-    of_event : (e : Event A) → ((p || permits s t object e) && not (a || ends s e) && not (b || ends t e)) ≡ permits_behind (is_late (has_ended h) e) e (is_left h) s t object
+    of_event : (e : Event A) → ((p || permits s t object e) && not (a || ends s e) && not (b || ends t e)) ≡ permits_after (is_late (has_ended h) e) e (is_left h) s t object
     of_event (Permit u v o) =
         let new = (u.0 == s) && (v.0 == t) && (o.0 == object) in
         with_one new p a b (has_ended h u.0 || has_ended h v.0) (of_permit u.0 v.0 o.0)
@@ -189,9 +189,9 @@ counts-left h s t object begun = sym (left-counts h s t object) ∙ of (has_perm
 pub permitted-push : {A : Type 0} (h : List (Kept A)) (k : Kept A) (p : Permitted) → ((s t object : ℕ) → p s t object ≡ is_permitted h s t object)
     → ((s t object : ℕ) → has_permitted h s t object ≡ true → (has_begun h s ≡ true) × (has_begun h t ≡ true))
     → ((s t object : ℕ) → has_permitted (h ++ k ∷ []) s t object ≡ true → (has_begun (h ++ k ∷ []) s ≡ true) × (has_begun (h ++ k ∷ []) t ≡ true))
-    → is_late (has_ended h) k.event ≡ false → (s t object : ℕ) → permits_behind false k.event p s t object ≡ is_permitted (h ++ k ∷ []) s t object
+    → is_late (has_ended h) k.event ≡ false → (s t object : ℕ) → permits_after false k.event p s t object ≡ is_permitted (h ++ k ∷ []) s t object
 permitted-push h k p are begun begun_later late s t object =
-    (λ i. permits_behind (sym late i) k.event (λ g u o. (are g u o ∙ counts-left h g u o (begun g u o)) i) s t object)
+    (λ i. permits_after (sym late i) k.event (λ g u o. (are g u o ∙ counts-left h g u o (begun g u o)) i) s t object)
     ∙ sym (left-push h k s t object)
     ∙ sym (counts-left (h ++ k ∷ []) s t object (begun_later s t object))
 

@@ -22,7 +22,7 @@ use Rattle.acta_table.specs.declared.model.Parts.{Parts}
 use Rattle.acta_table.specs.Classes.{exempts, has_heir}
 use Rattle.acta_table.specs.Fates.{is_open, is_committed, is_aborted}
 use Rattle.acta_axioms.specs.declared.course.Course.{Course}
-use Rattle.acta_axioms.specs.History.{number, places_behind, starts, course, has_begun, has_ended, is_in_progress, has_class, class_of, spawner, parent_of, ancestors}
+use Rattle.acta_axioms.specs.History.{number, places_after, starts, course, has_begun, has_ended, is_in_progress, has_class, class_of, spawner, parent_of, ancestors}
 use Rattle.acta_axioms.specs.Operations.{Operation, Standing, number_after, operations, held_by, ended_by, heir, followed, carried, standing, is_exempt, is_of_others, is_in_view, view_set, conflict_set}
 use Rattle.acta_axioms.specs.Values.{do_conflict, conflicting}
 use Rattle.acta_axioms.specs.Faults.{ill_formed, faults_at, faults_in_places}
@@ -330,10 +330,10 @@ step {A} m h (Abort t) ret strict fine so_far =
     so_far
 
 -- item by item
-grown : {A : Type 0} (m : Parts A) (front ks : List (Kept A)) → is_strict m ≡ true → flat_map (faults_at m) (places_behind front ks) ≡ [] → IsSerialSoFar m front (fates front) → IsSerialSoFar m (front ++ ks) (fates (front ++ ks))
+grown : {A : Type 0} (m : Parts A) (front ks : List (Kept A)) → is_strict m ≡ true → flat_map (faults_at m) (places_after front ks) ≡ [] → IsSerialSoFar m front (fates front) → IsSerialSoFar m (front ++ ks) (fates (front ++ ks))
 grown m front [] strict none so_far = subst (λ h. IsSerialSoFar m h (fates h)) (sym (append-nil front)) so_far
 grown m front (k ∷ ks) strict none so_far =
-    let both = none-both (faults_at m (at_end front k)) (flat_map (faults_at m) (places_behind (front ++ k ∷ []) ks)) none in
+    let both = none-both (faults_at m (at_end front k)) (flat_map (faults_at m) (places_after (front ++ k ∷ []) ks)) none in
     subst (λ h. IsSerialSoFar m h (fates h)) (append_assoc front (k ∷ []) ks)
     (grown m (front ++ k ∷ []) ks strict both.1 (step m front k.event k.ret strict (faultless-from m front k both.0) so_far))
 

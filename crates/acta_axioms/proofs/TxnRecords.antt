@@ -15,7 +15,7 @@ use Rattle.acta_table.specs.declared.model.Parts.{Parts}
 use Rattle.acta_table.specs.Classes.{class_at, has_heir}
 use Rattle.acta_table.specs.Events.{class_named}
 use Rattle.acta_axioms.specs.declared.txn_record.TxnRecord.{TxnRecord}
-use Rattle.acta_axioms.specs.History.{Place, number, places, places_behind, first, starts, commits, aborts, joins, has_begun, class_number, class_of, spawner, parent_of, course}
+use Rattle.acta_axioms.specs.History.{Place, number, places, places_after, first, starts, commits, aborts, joins, has_begun, class_number, class_of, spawner, parent_of, course}
 use Rattle.acta_axioms.specs.Operations.{heir}
 use Rattle.acta_axioms.specs.inside.TxnRecords.{unbegun, class_id, txn_record, begun_in, or_at, started, further, class_by, heir_of_line, heir_by, heir_in, before_place, heir_before}
 use Rattle.acta_axioms.proofs.Growth.{found-passes, first-append, places_within, course-push, class_number-push, parent_of-push}
@@ -138,7 +138,7 @@ heir-tabled m h lines _ are = refl
 -- at an earlier place
 
 -- after some items every place has a greater number than theirs
-places_past : {A : Type 0} (n : ℕ) (before h : List (Kept A)) → n ≤ length before → AllByRecursion (λ p. n < number p) (places_behind before h)
+places_past : {A : Type 0} (n : ℕ) (before h : List (Kept A)) → n ≤ length before → AllByRecursion (λ p. n < number p) (places_after before h)
 places_past n before [] past = tt
 places_past n before (k ∷ ks) past = (omega arith, places_past n (before ++ k ∷ []) ks (let grown = length_push before k in omega arith))
 
@@ -162,7 +162,7 @@ heir-earlier : {A : Type 0} (m : Parts A) (h : List (Kept A)) (n t : ℕ) → n 
 heir-earlier {A} m h n t within =
     in_test (option_map_or (λ start. leb start n) (course h t).start false)
     ∙ ap (heir_up_to m n) parted
-    ∙ up_to m n (first (starts t) (take n h)) (find (λ p. starts t p.kept.event) (places_behind (take n h) (drop n h))) among behind
+    ∙ up_to m n (first (starts t) (take n h)) (find (λ p. starts t p.kept.event) (places_after (take n h) (drop n h))) among behind
     ∙ heir-lined m (take n h) t
   where
     long : length (take n h) ≡ n
@@ -172,14 +172,14 @@ heir-earlier {A} m h n t within =
     in_test true = refl
     in_test false = refl
 
-    parted : first (starts t) h ≡ option_or (first (starts t) (take n h)) (find (λ p. starts t p.kept.event) (places_behind (take n h) (drop n h)))
+    parted : first (starts t) h ≡ option_or (first (starts t) (take n h)) (find (λ p. starts t p.kept.event) (places_after (take n h) (drop n h)))
     parted = ap (first (starts t)) (sym (take-append-drop n h)) ∙ first-append (starts t) (take n h) (drop n h)
 
     among : (q : Place A) → first (starts t) (take n h) ≡ Some q → number q ≤ n
     among q is = let low = (found-passes (λ p. starts t p.kept.event) (λ p. number p ≤ length (take n h)) (places (take n h)) q (places_within (length (take n h)) [] (take n h) (omega arith)) is).1 in omega (arith, low, long)
 
-    behind : (q : Place A) → find (λ p. starts t p.kept.event) (places_behind (take n h) (drop n h)) ≡ Some q → n < number q
-    behind q is = (found-passes (λ p. starts t p.kept.event) (λ p. n < number p) (places_behind (take n h) (drop n h)) q (places_past n (take n h) (drop n h) (omega (arith, long))) is).1
+    behind : (q : Place A) → find (λ p. starts t p.kept.event) (places_after (take n h) (drop n h)) ≡ Some q → n < number q
+    behind q is = (found-passes (λ p. starts t p.kept.event) (λ p. n < number p) (places_after (take n h) (drop n h)) q (places_past n (take n h) (drop n h) (omega (arith, long))) is).1
 
 pub heir-before : {A : Type 0} (m : Parts A) (h : List (Kept A)) (lines : List TxnRecord) (n : ℕ) (e : Event A) → n ≤ length h → ((t : ℕ) → get_or lines t unbegun ≡ txn_record h t) → heir_before m n lines e ≡ heir_by m (take n h) e
 heir-before m h lines n (Commit t) within are = ap (λ line. heir_of_line m (before_place n line)) (are t.0) ∙ heir-earlier m h n t.0 within

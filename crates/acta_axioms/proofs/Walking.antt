@@ -16,7 +16,7 @@ use Rattle.acta_axioms.specs.Edges.{formed_by, edges}
 use Rattle.acta_axioms.specs.Walks.{Walked, stepped, with_next, held_ops}
 use Rattle.acta_axioms.specs.inside.Holding.{brought_from, op_done}
 use Rattle.acta_axioms.specs.inside.TxnRecords.{unbegun, begun_in, ended_in, is_late, further, heir_in}
-use Rattle.acta_axioms.specs.inside.Walking.{permits_behind, is_left, IsKept}
+use Rattle.acta_axioms.specs.inside.Walking.{permits_after, is_left, IsKept}
 use Rattle.acta_axioms.proofs.Permitting.{left-push}
 use Rattle.acta_sets.specs.Permits.{Permitted}
 use Rattle.acta_axioms.specs.History.{end}
@@ -56,7 +56,7 @@ shown-more {A} m h n k w next is =
 
 -- the kept data
 pub kept-more : {A : Type 0} (m : Parts A) (h : List (Kept A)) (n : ℕ) (k : Kept A) (lines new_lines : List TxnRecord) (store new_store : Stored) (es new_es : List Edge) (ps new_ps : Permitted) (left : Option TxnId) → IsNext h n k →
-    IsKept m h n lines store es ps → new_es ≡ formed es (formed_by m (take n h) k.event) → left ≡ heir_in m lines k.event → new_store ≡ record store { items = brought_from left k.event 1 store.items ++ option_to_list (op_done k.event) } → new_ps ≡ permits_behind (is_late (ended_in lines) k.event) k.event ps →
+    IsKept m h n lines store es ps → new_es ≡ formed es (formed_by m (take n h) k.event) → left ≡ heir_in m lines k.event → new_store ≡ record store { items = brought_from left k.event 1 store.items ++ option_to_list (op_done k.event) } → new_ps ≡ permits_after (is_late (ended_in lines) k.event) k.event ps →
     length new_lines ≡ length lines → ((t : ℕ) → get_or new_lines t unbegun ≡ further (n + 1) (begun_in lines) k.event t (get_or lines t unbegun)) → IsKept m h (n + 1) new_lines new_store new_es new_ps
 kept-more m h n k lines new_lines store new_store es new_es ps new_ps left next kept formed_are left_is brought_are permitted_are long noted =
     let within : n < length h = next.within in
@@ -73,7 +73,7 @@ kept-more m h n k lines new_lines store new_store es new_es ps new_ps left next 
           ∙ held_ops-push m (take n h) k
           ∙ ap (held_ops m) front;
       permits_are = λ s t object.
-          ap (λ (p : Permitted). p s t object) (permitted_are ∙ (λ i. permits_behind (is_late (λ u. is_some (end (kept.lines_are u i).course)) k.event) k.event (λ u v o. kept.permits_are u v o i)))
+          ap (λ (p : Permitted). p s t object) (permitted_are ∙ (λ i. permits_after (is_late (λ u. is_some (end (kept.lines_are u i).course)) k.event) k.event (λ u v o. kept.permits_are u v o i)))
           ∙ sym (left-push (take n h) k s t object)
           ∙ ap (λ g. is_left g s t object) front;
       edges_are = formed_are ∙ ap (λ fs. formed fs (formed_by m (take n h) k.event)) kept.edges_are ∙ sym (edges-push m (take n h) k) ∙ ap (edges m) front;

@@ -24,14 +24,14 @@ abbrev pub number : {A : Type 0} → Place A → ℕ
 number p = length p.before + 1
 
 -- the places of items that follow others
-abbrev pub places_behind : {A : Type 0} → List (Kept A) → List (Kept A) → List (Place A)
-places_behind before [] = []
-places_behind before (k ∷ ks) =
-    record { before = before; kept = k } ∷ places_behind (before ++ k ∷ []) ks
+abbrev pub places_after : {A : Type 0} → List (Kept A) → List (Kept A) → List (Place A)
+places_after before [] = []
+places_after before (k ∷ ks) =
+    record { before = before; kept = k } ∷ places_after (before ++ k ∷ []) ks
 
 -- the places of a history, in order
 abbrev pub places : {A : Type 0} → List (Kept A) → List (Place A)
-places h = places_behind [] h
+places h = places_after [] h
 
 -- the first place with an event that passes the test
 abbrev pub first : {A : Type 0} → (Event A → Bool) → List (Kept A) → Option (Place A)

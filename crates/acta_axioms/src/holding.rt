@@ -1,5 +1,5 @@
 ghost use Rattle.std.specs.Prelude.{◌≡◌, if◌then◌else◌};
-ghost use Rattle.acta_axioms.specs.inside.Holding.{in_hand, ended_so, held_behind, brought, op_done};
+ghost use Rattle.acta_axioms.specs.inside.Holding.{in_hand, ended_so, held_after, brought, op_done};
 
 use acta_sets::HeldOp;
 use acta_table::{Event, Fate, TxnId};
@@ -24,13 +24,13 @@ fn ended(item: HeldOp, ends: bool, fate: Fate) -> HeldOp
 }
 
 // The operation with this number, in progress, after the event, given the heir of the transaction that commits by it.
-fn held_behind<A: Allocator>(
+fn held_after<A: Allocator>(
     heir: Option<TxnId>,
     event: &Event<A>,
     number: usize,
     item: HeldOp,
 ) -> HeldOp
-    ensures { result ≡ held_behind heir event.now number item }
+    ensures { result ≡ held_after heir event.now number item }
 {
     let holder = item.holder.0;
     match event {
@@ -64,7 +64,7 @@ pub fn brought<A: Allocator>(
     ensures { result ≡ brought heir event.now number item }
 {
     if matches!(item.fate, Fate::InProgress) {
-        held_behind(heir, event, number, item)
+        held_after(heir, event, number, item)
     } else {
         item
     }

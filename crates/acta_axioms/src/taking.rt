@@ -1,6 +1,6 @@
 ghost use Rattle.std.specs.Prelude.{◌≡◌, ◌<◌, ◌++◌, length, option_to_list, OnOk, OnErr};
 ghost use Rattle.acta_sets.specs.Permits.{permitted};
-ghost use Rattle.acta_axioms.specs.inside.Walking.{permits_left, permits_behind};
+ghost use Rattle.acta_axioms.specs.inside.Walking.{permits_left, permits_after};
 ghost use Rattle.acta_table.specs.Edges.{formed};
 ghost use Rattle.acta_axioms.specs.inside.Holding.{brought_from, op_done};
 
@@ -60,7 +60,7 @@ fn follow_all<A: Handle>(
 ) -> Result<(), AllocError>
     requires { length store.old.items < MOST_EVENTS }
     ensures brought { OnOk result (store.new ≡ record store.old { items = brought_from before.heir event.now 1 store.old.items ++ option_to_list (op_done event.now) }) }
-    ensures permitted { OnOk result (permitted permits.new ≡ permits_behind before.is_late event.now (permitted permits.old)) }
+    ensures permitted { OnOk result (permitted permits.new ≡ permits_after before.is_late event.now (permitted permits.old)) }
     ensures store_err { OnErr result (store.new ≡ store.old) }
     ensures permits_err { OnErr result (permitted permits.new ≡ permitted permits.old) }
 {
@@ -97,7 +97,7 @@ pub(crate) fn go_on<A: Handle>(
     requires { length store.old.items < MOST_EVENTS }
     ensures formed { OnOk result (edges.new.keys ≡ formed edges.old.keys due.now) }
     ensures brought { OnOk result (store.new ≡ record store.old { items = brought_from before.heir event.now 1 store.old.items ++ option_to_list (op_done event.now) }) }
-    ensures permitted { OnOk result (permitted permits.new ≡ permits_behind before.is_late event.now (permitted permits.old)) }
+    ensures permitted { OnOk result (permitted permits.new ≡ permits_after before.is_late event.now (permitted permits.old)) }
     ensures edges_err { OnErr result (edges.new.keys ≡ edges.old.keys) }
     ensures store_err { OnErr result (store.new ≡ store.old) }
     ensures permits_err { OnErr result (permitted permits.new ≡ permitted permits.old) }

@@ -4,7 +4,7 @@ ghost use Rattle.acta_axioms.specs.inside.Walking.{standing_in};
 ghost use Rattle.acta_axioms.specs.inside.Holding.{followed_on, next_number};
 
 use crate::holding::{brought, op_done};
-use crate::txn_record::heir_behind;
+use crate::txn_record::heir_after;
 use crate::walk::Walk;
 use acta_sets::{Handle, HeldOp};
 use acta_table::{Event, OpNo, TxnId};
@@ -49,7 +49,7 @@ impl<'a, A: Handle> Walk<'a, A> {
         let mut held = None;
         for i in 0..end {
             let event = &front[i].event;
-            let heir = heir_behind(self.model, self.lines.as_slice(), i as u32, event);
+            let heir = heir_after(self.model, self.lines.as_slice(), i as u32, event);
             held = followed_on(heir, event, op.0 as usize, number, held);
             number = next_number(event, number);
         }

@@ -214,7 +214,7 @@ fn before_place(n: u32, line: TxnRecord) -> TxnRecord
 }
 
 /// The heir of the transaction that commits by the event after the first n places, given the table for all places.
-pub fn heir_behind<A: Allocator>(
+pub fn heir_after<A: Allocator>(
     model: &Model<A>,
     lines: &[TxnRecord],
     n: u32,

@@ -17,7 +17,7 @@ use Rattle.acta_debug.specs.declared.breaks.Break.{Break}
 use Rattle.acta_debug.specs.Histories.{IsHistory, state_at}
 use Rattle.acta_debug.specs.Moves.{behind, taken}
 use Rattle.acta_debug.specs.Sessions.{Session}
-use Rattle.acta_debug.specs.inside.Shown.{AreFronts, IsBehind, IsFront, IsInside, has_kept_within, session_of}
+use Rattle.acta_debug.specs.inside.Shown.{AreFronts, IsCurrent, IsFront, IsInside, has_kept_within, session_of}
 use Rattle.acta_debug.proofs.Fronts.{front-on}
 use Rattle.acta_debug.proofs.Replaying.{after-on, after-refused, fronts, history-on, with_kept}
 use Rattle.acta_debug.proofs.Standing.{inside-at, shows-state, stands}
@@ -51,10 +51,10 @@ module _ {A : Type 0} (s t : State A) (h : List (Kept A)) (at : ℕ) (bs : List 
     stays : t ≡ s
     stays = goes ∙ after-refused s e rule by refused
 
-    pub refused-inside : (ts : List (State A)) (list : List (Kept A)) → list ≡ h → AreFronts s.model h ts → IsBehind t list at ts
+    pub refused-inside : (ts : List (State A)) (list : List (Kept A)) → list ≡ h → AreFronts s.model h ts → IsCurrent t list at ts
     refused-inside ts list same are =
-        subst (λ (x : State A). IsBehind x list at ts) (sym stays)
-        (subst (λ (l : List (Kept A)). IsBehind s l at ts) (sym same) (record { stands = inside; fronts = are }))
+        subst (λ (x : State A). IsCurrent x list at ts) (sym stays)
+        (subst (λ (l : List (Kept A)). IsCurrent s l at ts) (sym same) (record { stands = inside; fronts = are }))
 
     pub refused-moves : (q : Session A) (list : List (Kept A)) → list ≡ h → session_of s h at bs ≡ q → session_of t list at bs ≡ taken q e
     refused-moves q list same view =

@@ -40,13 +40,13 @@ pub struct Debugger<A: Handle> {
 
 impl<A: Handle> std::marker::Model for Debugger<A> {
     ghost use Rattle.acta_debug.specs.Sessions.{Session};
-    ghost use Rattle.acta_debug.specs.inside.Shown.{IsBehind, session_of};
+    ghost use Rattle.acta_debug.specs.inside.Shown.{IsCurrent, session_of};
 
     ghost Value = { Session A };
 
     ghost view = { λ d. session_of d.machine d.history.items d.at d.breaks.items };
 
-    ghost invariant = { λ d. IsBehind d.machine d.history.items d.at d.checkpoints.items };
+    ghost invariant = { λ d. IsCurrent d.machine d.history.items d.at d.checkpoints.items };
 }
 
 // Returns a copy of the items.
@@ -209,7 +209,7 @@ impl<A: Handle> Debugger<A> {
             return Err(MoveError::AtStart);
         }
         self.draw_near(at - 1)?;
-        self.stand_behind(at - 1)?;
+        self.move_machine(at - 1)?;
         Ok(())
     }
 
@@ -245,7 +245,7 @@ impl<A: Handle> Debugger<A> {
         if n > self.last() {
             return Err(MoveError::OutOfRange);
         }
-        self.stand_behind(n as usize)?;
+        self.move_machine(n as usize)?;
         Ok(())
     }
 
@@ -342,7 +342,7 @@ impl<A: Handle> Debugger<A> {
     }
 
     // The machine after the first n events.
-    fn machine_behind(&self, n: usize) -> Result<Machine<A>, AllocError>
+    fn machine_at_place(&self, n: usize) -> Result<Machine<A>, AllocError>
         requires { n ≤ length self.now.history }
         ensures kept { IfOk result (λ machine. machine ≡ record { model = self.now.model; kept = take n self.now.history }) }
         ensures follows { IfOk result FollowsPlaces }
@@ -368,7 +368,7 @@ impl<A: Handle> Debugger<A> {
         if has_between(self.checkpoints.as_slice(), start, n) {
             return Ok(());
         }
-        let machine = self.machine_behind(start)?;
+        let machine = self.machine_at_place(start)?;
         let count = self.checkpoints.len();
         if count == 0 {
             drop(machine);
@@ -411,12 +411,12 @@ impl<A: Handle> Debugger<A> {
     }
 
     // Moves to the place after the first n events. On `Err` the debugger does not move.
-    fn stand_behind(&mut self, n: usize) -> Result<(), AllocError>
+    fn move_machine(&mut self, n: usize) -> Result<(), AllocError>
         requires { n ≤ length self.old.history }
         ensures ok { OnOk result (self.new ≡ moved_to self.old n) }
         ensures err { OnErr result (self.new ≡ self.old) }
     {
-        let machine = self.machine_behind(n)?;
+        let machine = self.machine_at_place(n)?;
         drop(replace(&mut self.machine, machine));
         self.at = n;
         Ok(())

@@ -38,19 +38,19 @@ next_fits edges more all k d room h ends fits =
     let same : length (formed (with_edge edges e) (drop (suc k) more)) ≡ length all = ap (λ (xs : List Edge). length xs) next in
     omega arith
 
-with_behind : (edges : List Edge) (f : Edge) (known : Bool) → (rest : List Edge) × ((if known then edges else edges ++ f ∷ []) ≡ edges ++ rest)
-with_behind edges f true = ([], sym (append-nil edges))
-with_behind edges f false = (f ∷ [], refl)
+with_after : (edges : List Edge) (f : Edge) (known : Bool) → (rest : List Edge) × ((if known then edges else edges ++ f ∷ []) ≡ edges ++ rest)
+with_after edges f true = ([], sym (append-nil edges))
+with_after edges f false = (f ∷ [], refl)
 
-formed_behind : (edges more : List Edge) → (rest : List Edge) × (formed edges more ≡ edges ++ rest)
-formed_behind edges [] = ([], sym (append-nil edges))
-formed_behind edges (f ∷ fs) =
-    let one = with_behind edges f (is_among edges f) in
-    let all = formed_behind (with_edge edges f) fs in
+formed_after : (edges more : List Edge) → (rest : List Edge) × (formed edges more ≡ edges ++ rest)
+formed_after edges [] = ([], sym (append-nil edges))
+formed_after edges (f ∷ fs) =
+    let one = with_after edges f (is_among edges f) in
+    let all = formed_after (with_edge edges f) fs in
     (one.0 ++ all.0, all.1 ∙ ap (λ (xs : List Edge). xs ++ all.0) one.1 ∙ append_assoc edges one.0 all.0)
 
 -- the earlier edges stay a prefix
 pub take_formed : (edges more : List Edge) → take (length edges) (formed edges more) ≡ edges
 take_formed edges more =
-    let behind = formed_behind edges more in
+    let behind = formed_after edges more in
     ap (λ (xs : List Edge). take (length edges) xs) behind.1 ∙ take-append_seam edges behind.0

@@ -30,13 +30,13 @@ latest_take : (ts : List ℕ) (m t n : ℕ) → n ≤ m → latest (take m ts) t
 latest_take ts m t n h = latest_same (take m ts) ts t n (λ k l. get_or-take m ts k 0 (omega arith))
 
 -- t's last place is not before any place of t
-latest_behind : (ts : List ℕ) (t n k : ℕ) → k < n → get_or ts k 0 ≡ t → k < latest ts t n
-latest_behind ts t zero k h e = absurd (omega arith)
-latest_behind ts t (suc n) k h e =
+latest_after : (ts : List ℕ) (t n k : ℕ) → k < n → get_or ts k 0 ≡ t → k < latest ts t n
+latest_after ts t zero k h e = absurd (omega arith)
+latest_after ts t (suc n) k h e =
     elim (cases_eq k n) [
       | inl same ↦ let is : latest ts t (suc n) ≡ suc n = at-same ts t n (ap (λ m. get_or ts m 0) (sym same) ∙ e) in omega arith
       | inr other ↦
-          let before : k < latest ts t n = latest_behind ts t n k (omega arith) e in
+          let before : k < latest ts t n = latest_after ts t n k (omega arith) e in
           cond_both (get_or ts n 0 == t) (suc n) (latest ts t n) (λ x. k < x) (λ _. omega arith) (λ _. before)
     ]
 
@@ -61,7 +61,7 @@ in_table ts last lasts k h =
           let t : ℕ = get_or ts k 0 in
           let none : get_or last t 0 ≡ 0 = get_or_past last t 0 past in
           let is : get_or last t 0 ≡ latest ts t (length ts) = lasts t in
-          let behind : k < latest ts t (length ts) = latest_behind ts t (length ts) k h refl in
+          let behind : k < latest ts t (length ts) = latest_after ts t (length ts) k h refl in
           absurd (omega arith)
     ]
 

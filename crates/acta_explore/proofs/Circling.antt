@@ -5,7 +5,7 @@ use Rattle.std.proofs.lemmas.Bool.Decides.{nat_tests}
 use Rattle.std.proofs.lemmas.List.{drop_all}
 use Rattle.std.proofs.lemmas.List.Folds.{Any-from_list_any}
 use Rattle.acta_explore.specs.declared.circle.Link.{Link}
-use Rattle.acta_explore.specs.Deadlocks.{WaitsForSeat, IsCircle}
+use Rattle.acta_explore.specs.Deadlocks.{WaitsForSeat, IsCycle}
 use Rattle.acta_explore.specs.Points.{Point}
 use Rattle.acta_explore.specs.Programs.{Programs}
 use Rattle.acta_explore.specs.inside.Circles.{AreLinks, is_linked, IsChain}
@@ -32,7 +32,7 @@ linked-waits programs p links s u are linked =
     (subst (λ (l : Link). WaitsForSeat programs p l.seat l.next) found.3 (are found.0 link found.2)))
 
 -- a closed chain is a cycle
-pub closed-circle : {A : Type 0} (programs : Programs A) (p : Point A) (links : List Link) (chain : List ℕ) → AreLinks programs p links → IsChain links chain → 2 ≤ length chain → get_or chain (length chain - 1) 0 ≡ get_or chain 0 0 → IsCircle programs p chain
+pub closed-circle : {A : Type 0} (programs : Programs A) (p : Point A) (links : List Link) (chain : List ℕ) → AreLinks programs p links → IsChain links chain → 2 ≤ length chain → get_or chain (length chain - 1) 0 ≡ get_or chain 0 0 → IsCycle programs p chain
 closed-circle programs p links chain are linked long closed = record {
   long = long;
   waits = λ k within. linked-waits programs p links (get_or chain k 0) (get_or chain (k + 1) 0) are (linked k within);

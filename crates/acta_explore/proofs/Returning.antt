@@ -21,7 +21,7 @@ use Rattle.acta_table.specs.WellFormed.{bad_number, bad_class, bad_object, same_
 use Rattle.acta_objects.specs.Objects.{suits}
 use Rattle.acta_objects.specs.WellFormed.{bad_operation}
 use Rattle.acta_axioms.specs.Faults.{when, first_named, ill_formed, is_due, wrong_return, faults_at}
-use Rattle.acta_axioms.specs.History.{Place, places_behind}
+use Rattle.acta_axioms.specs.History.{Place, places_after}
 use Rattle.acta_axioms.specs.Operations.{Operation, number_after, operation_in, operation_at, operations, standing}
 use Rattle.acta_axioms.specs.Values.{is_well_formed, return_due}
 use Rattle.acta_axioms.specs.Walks.{held_op}
@@ -97,7 +97,7 @@ same-first : {X : Type 0} (x y : X) (xs ys : List X) → x ∷ xs ≡ y ∷ ys �
 same-first x y xs ys e = (cc, cc)
 
 -- steps that return what the events of a history do did as many operations as the history has
-counted-behind : {A : Type 0} (m : Parts A) (before h : List (Kept A)) (steps : List Step) → flat_map (faults_at m) (places_behind before h) ≡ [] → ReturnAsKept steps h → length (operated_lines steps) ≡ length (filter_map operation_at (places_behind before h))
+counted-behind : {A : Type 0} (m : Parts A) (before h : List (Kept A)) (steps : List Step) → flat_map (faults_at m) (places_after before h) ≡ [] → ReturnAsKept steps h → length (operated_lines steps) ≡ length (filter_map operation_at (places_after before h))
 counted-behind m before [] [] none same = refl
 counted-behind m before [] (s ∷ steps) none same = absurd cc
 counted-behind m before (k ∷ h) [] none same = absurd cc
@@ -106,7 +106,7 @@ counted-behind {A} m before (k ∷ h) (s ∷ steps) none same =
     let both = none-both (faults_at m place) _ none in
     let sound = faultless-from m before k both.0 in
     let first = same-first s.ret k.ret (map (λ r. r.ret) steps) (map (λ r. r.ret) h) same in
-    one-more s.line s.ret (operation_at place) (operated_lines steps) (filter_map operation_at (places_behind (before ++ k ∷ []) h))
+    one-more s.line s.ret (operation_at place) (operated_lines steps) (filter_map operation_at (places_after (before ++ k ∷ []) h))
     (ap is_some first.0 ∙ returns-if m before place k.ret k.event sound.form_of_event sound.return)
     (counted-behind m (before ++ k ∷ []) h steps both.1 first.1)
 

@@ -87,7 +87,7 @@ pub record WaitsForSeat {A : Type 0} (programs : Programs A) (p : Point A) (s u 
   pub left : has_left programs p (first_for s line u) u txn.0 ≡ true
 
 -- a chain of seats, each of which waits for the next; the last is the first again
-pub record IsCircle {A : Type 0} (programs : Programs A) (p : Point A) (chain : List ℕ) : Type 0 where
+pub record IsCycle {A : Type 0} (programs : Programs A) (p : Point A) (chain : List ℕ) : Type 0 where
   pub long : 2 ≤ length chain
   pub waits : (k : ℕ) → k + 1 < length chain → WaitsForSeat programs p (get_or chain k 0) (get_or chain (k + 1) 0)
   pub closed : get_or chain (length chain - 1) 0 ≡ get_or chain 0 0

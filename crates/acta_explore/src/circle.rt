@@ -4,7 +4,7 @@ ghost use Rattle.std.specs.Prelude.{◌≡◌, ◌-◌, ◌≤◌, ◌==◌, fal
 ghost use Rattle.std.specs.List.{list_any, zip};
 ghost use Rattle.acta_deps.specs.Statuses.{is_new};
 ghost use Rattle.acta_machine.specs.Table.{status_in};
-ghost use Rattle.acta_explore.specs.Deadlocks.{bars_until, first_for, waited_for, EventWaits, AlternativeWaits, SeatWaits, WaitsForSeat, is_txn, moves, is_left, IsCircle, BeginsWith};
+ghost use Rattle.acta_explore.specs.Deadlocks.{bars_until, first_for, waited_for, EventWaits, AlternativeWaits, SeatWaits, WaitsForSeat, is_txn, moves, is_left, IsCycle, BeginsWith};
 ghost use Rattle.acta_explore.specs.Programs.{lines_done};
 ghost use Rattle.acta_explore.specs.inside.Circles.{AreWaits, AreLinks, is_linked, IsChain};
 
@@ -398,7 +398,7 @@ pub fn deadlock<A: Handle>(
     point: &Point<A>,
     seat: u8,
 ) -> Result<Option<Vec<u8, A>>, AllocError>
-    ensures circle { IfOk result (λ found. IfSome found (λ chain. IsCircle plan.now point.now chain.items)) }
+    ensures circle { IfOk result (λ found. IfSome found (λ chain. IsCycle plan.now point.now chain.items)) }
     ensures start { IfOk result (λ found. IfSome found (λ chain. BeginsWith seat chain.items)) }
 {
     let links = links(alloc, plan, point)?;

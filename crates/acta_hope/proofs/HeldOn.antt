@@ -40,11 +40,11 @@ use Rattle.acta_machine.proofs.Broken.{in_progress, not_broken}
 use Rattle.acta_machine.proofs.Histories.{summary_more}
 use Rattle.acta_machine.proofs.Unbroken.{unbroken, none-earlier}
 use Rattle.acta_hope.specs.Growth.{IsLater}
-use Rattle.acta_hope.specs.Hopes.{IsHopeless, stands_in}
+use Rattle.acta_hope.specs.Hopes.{IsHopeless, is_blocking}
 use Rattle.acta_hope.specs.Parts.{holds_on, is_held_on, exempts_none}
 use Rattle.acta_hope.proofs.Growth.{summary_in, model-after, later-after, later-after_all}
 use Rattle.acta_hope.proofs.Hopes.{held-then, is_something, only-later}
-use Rattle.acta_hope.proofs.LettingGo.{mapped-at, moved-got, not-eqb}
+use Rattle.acta_hope.proofs.Releasing.{mapped-at, moved-got, not-eqb}
 use Rattle.acta_hope.proofs.Standing.{has-stays, conflict-gone, conflict-stands}
 
 -- a transaction does no event that its class does not allow
@@ -256,7 +256,7 @@ exempt-none m s t is = λ k. if is k then ancestors_of s t else []
 pub held-on : {A : Type 0} (state : State A) (t : TxnId) (ob : ObjId) (op : Op) (n : ℕ) (i : HeldOp) →
     operation_at (summary_in state).operations n ≡ Some i → stands_against state.model (summary_in state) t.0 ob op i ≡ true → (summary_in state).status t.0 ≡ InProgress →
     is_held_on state.model (summary_in state) (event.Operate t ob op) i.holder.0 ≡ true →
-    (es : List (Event A)) → stands_in state.model (summary_in (after_all state es)) (event.Operate t ob op) n ≡ true
+    (es : List (Event A)) → is_blocking state.model (summary_in (after_all state es)) (event.Operate t ob op) n ≡ true
 held-on {A} state t ob op n i at stands on holds es =
     ap (λ o. option_map_or (stands_against m l t.0 ob op) o false) later_kept.at ∙ same ∙ stands
   where
@@ -300,7 +300,7 @@ held-never {A} state (event.Operate t ob op) one holds at broken = λ es. is_som
     let stands = conflict-stands state.model s e one.number.0 one.held at broken.0 in
     let here = sym (ap (λ o. option_map_or (stands_against state.model s t.0 ob op) o false) at) ∙ stands in
     let there = held-on state t ob op one.number.0 one.held at here on holds es in
-    let gone = only-later state e (λ l. stands_in state.model l e one.number.0 ≡ false) (conflict-gone state.model s e one.number.0 broken) es none in
+    let gone = only-later state e (λ l. is_blocking state.model l e one.number.0 ≡ false) (conflict-gone state.model s e one.number.0 broken) es none in
     true≢false (sym there ∙ gone))
 held-never state (event.Begin t class) one holds at broken = absurd (true≢false (sym holds))
 held-never state (event.Spawn t c class) one holds at broken = absurd (true≢false (sym holds))

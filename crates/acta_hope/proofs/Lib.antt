@@ -7,7 +7,7 @@ pub mod Growth
 pub mod HeldOn
 pub mod Hopes
 pub mod LastLost
-pub mod LettingGo
+pub mod Releasing
 pub mod NeverBegun
 pub mod Reasons
 pub mod Rulings

@@ -22,8 +22,8 @@ use Rattle.acta_machine.specs.declared.reason.NumberedOp.{NumberedOp}
 use Rattle.acta_machine.specs.declared.reason.Reason.{Reason}
 use Rattle.acta_machine.specs.declared.reason.Reason.TheVariants.{Blocked, Conflict, EdgesFull, PartialDelegation, Full, Form, NotInProgress, AlreadyBegun, NotInModel, PartnerNotInProgress, NotResponsible, BadSet, FormTooLate, NoHeir}
 use Rattle.acta_hope.specs.declared.hoping.Hope.{Hope}
-use Rattle.acta_hope.specs.declared.hoping.Hope.TheVariants.{Never, OnceBegun, OnceHeld, OnceDecided, OnceCommitted, OnceAborted, OnceFree, OnceLetGo, OnceFewer, Unknown}
-use Rattle.acta_hope.specs.Hopes.{IsHopeless, OnlyWhere, IsWhy, Holds, HasForce, is_of_edge, are_listed, conflicting_holders_of, stands_in}
+use Rattle.acta_hope.specs.declared.hoping.Hope.TheVariants.{Never, OnceBegun, OnceHeld, OnceDecided, OnceCommitted, OnceAborted, OnceFree, OnceReleased, OnceFewer, Unknown}
+use Rattle.acta_hope.specs.Hopes.{IsHopeless, OnlyWhere, IsWhy, Holds, HasForce, is_of_edge, are_listed, conflicting_holders_of, is_blocking}
 use Rattle.acta_hope.specs.Parts.{IsOfBegun, IsOfConflict, IsOfHeld, IsOfLeftOut, IsOfBlockingEdge, IsOfEdges, may_be_unreported, blocks_for_good, is_no_operation}
 use Rattle.acta_hope.specs.Rulings.{IsBrokenBy}
 use Rattle.acta_hope.proofs.BlockingEdges.{blocked-never, blocked-force, blocked-reported, blocked-begun, blocked-serial, blocked-termination, blocked-commit, blocked-abort}
@@ -125,7 +125,7 @@ module _ {A : Type 0} (state : State A) (e : Event A) where
       (only-later state e (λ l. l.status b.by.edge.i.0 ≡ Aborted) (blocked-abort state.model s e b.by.number b.by.edge why.so.0 (by-rule b why BeginOnAbort is.0)))
   of-blocking_edge b (OnceHeld t k) is why = absurd is
   of-blocking_edge b (OnceFree k) is why = absurd is
-  of-blocking_edge b (OnceLetGo t k) is why = absurd is
+  of-blocking_edge b (OnceReleased t k) is why = absurd is
   of-blocking_edge b OnceFewer is why = absurd is
   of-blocking_edge b Unknown is why = tt
 
@@ -139,13 +139,13 @@ module _ {A : Type 0} (state : State A) (e : Event A) where
   pub of-conflict : (op : NumberedOp) (hope : Hope) → IsOfConflict state.model s e op hope → IsWhy state e (Conflict op) → Holds state e hope
   of-conflict op Never is why = held-never state e op is why.so (broken (Conflict op) why)
   of-conflict op (OnceFree k) is why = λ es none.
-      ap (λ m. stands_in m (summary_in (after_all state es)) e k.0) (model-after_all state es)
-      ∙ ap (λ (j : OpNo). stands_in state.model (summary_in (after_all state es)) e j.0) is.1
-      ∙ only-later state e (λ l. stands_in state.model l e op.number.0 ≡ false) (conflict-gone state.model s e op.number.0 (broken (Conflict op) why)) es none
+      ap (λ m. is_blocking m (summary_in (after_all state es)) e k.0) (model-after_all state es)
+      ∙ ap (λ (j : OpNo). is_blocking state.model (summary_in (after_all state es)) e j.0) is.1
+      ∙ only-later state e (λ l. is_blocking state.model l e op.number.0 ≡ false) (conflict-gone state.model s e op.number.0 (broken (Conflict op) why)) es none
   of-conflict op _ is why = absurd is
 
   pub of-left-out : (op : NumberedOp) (hope : Hope) → IsOfLeftOut e op.number hope → IsWhy state e (PartialDelegation op) → Holds state e hope
-  of-left-out op (OnceLetGo t k) is why =
+  of-left-out op (OnceReleased t k) is why =
       subst (λ (n : OpNo). OnlyWhere (λ later. is_held_in t.0 (operations_in later) n ≡ false) state e) (sym is.0)
       (only-later state e (λ l. option_map_or (is_held t.0) (operation_at l.operations op.number.0) false ≡ false) (left-let-go state.model s e t.0 op.number.0 is.1 (broken (PartialDelegation op) why)))
   of-left-out op Unknown is why = tt

@@ -37,7 +37,7 @@ use Rattle.acta_machine.specs.Summary.{Summary}
 use Rattle.acta_machine.proofs.Broken.{by_none, in_progress}
 use Rattle.acta_machine.proofs.Unbroken.{linked-room, Unbroken, unbroken, none-earlier}
 use Rattle.acta_hope.specs.Growth.{IsLater}
-use Rattle.acta_hope.specs.Hopes.{stands_in, conflicting_holders_of, is_listed, are_listed, is_operate}
+use Rattle.acta_hope.specs.Hopes.{is_blocking, conflicting_holders_of, is_listed, are_listed, is_operate}
 use Rattle.acta_hope.proofs.BlockKinds.{none-passes-at, passes}
 use Rattle.acta_hope.proofs.Counting.{among-left, among-right, among-either, formed-covered, left-true, right-true}
 use Rattle.acta_hope.proofs.Hopes.{Only, by_some, if_some}
@@ -67,7 +67,7 @@ none-at {X} test xs n none = of (item_at xs n) refl
     of (Some x) at = none-passes-at test xs n x none at
 
 -- if the event is admitted, an operation that blocked it no longer does
-pub conflict-gone : {A : Type 0} (m : Parts A) (s : Summary) (e : Event A) (n : ℕ) → (conflict m s e ≡ Some (record { rule = Conflict; by = Some n })) × (not_in_progress s e ≡ None) → Only m s e (λ l. stands_in m l e n ≡ false)
+pub conflict-gone : {A : Type 0} (m : Parts A) (s : Summary) (e : Event A) (n : ℕ) → (conflict m s e ≡ Some (record { rule = Conflict; by = Some n })) × (not_in_progress s e ≡ None) → Only m s e (λ l. is_blocking m l e n ≡ false)
 unfolding conflict not_in_progress
 conflict-gone m s (Operate t ob op) n broken l later none =
     let on = in_progress s NotInProgress t.0 broken.1 in
@@ -90,7 +90,7 @@ guard-only true o n e = e
 guard-only false o n e = cc
 
 -- the named operation blocks the event
-pub conflict-stands : {A : Type 0} (m : Parts A) (s : Summary) (e : Event A) (n : ℕ) (i : HeldOp) → operation_at s.operations n ≡ Some i → conflict m s e ≡ Some (record { rule = Conflict; by = Some n }) → stands_in m s e n ≡ true
+pub conflict-stands : {A : Type 0} (m : Parts A) (s : Summary) (e : Event A) (n : ℕ) (i : HeldOp) → operation_at s.operations n ≡ Some i → conflict m s e ≡ Some (record { rule = Conflict; by = Some n }) → is_blocking m s e n ≡ true
 unfolding conflict
 conflict-stands m s (Operate t ob op) n i at broken =
     let first = guard-only (refuses_conflicts m s t.0) (first_number (stands_against m s t.0 ob op) s.operations) n (by_some Conflict _ n broken) in

@@ -32,7 +32,7 @@ abbrev pub is_linked : List Wait → ℕ → ℕ → Bool
 is_linked waits place next = links (slice_get waits place) (slice_get waits next)
 
 -- the transaction at each place waits for the one at the next, and the last place equals the first
-abbrev pub IsCircle : List Wait → List ℕ → Type 0
-IsCircle waits places =
+abbrev pub IsCycle : List Wait → List ℕ → Type 0
+IsCycle waits places =
     (2 ≤ length places) × (get_or places 0 0 ≡ get_or places (length places - 1) 0)
     × ((k : ℕ) → k + 1 < length places → is_linked waits (get_or places k 0) (get_or places (k + 1) 0) ≡ true)

@@ -20,7 +20,7 @@ use Rattle.acta_machine.specs.declared.reason.Reason.{Reason}
 use Rattle.acta_machine.specs.declared.reason.Reason.TheVariants.{Blocked, Conflict}
 use Rattle.acta_hope.specs.BlockKinds.{edge_test}
 use Rattle.acta_hope.specs.declared.hoping.Hope.{Hope}
-use Rattle.acta_hope.specs.declared.hoping.Hope.TheVariants.{Never, OnceBegun, OnceHeld, OnceDecided, OnceCommitted, OnceAborted, OnceFree, OnceLetGo, OnceFewer, Unknown}
+use Rattle.acta_hope.specs.declared.hoping.Hope.TheVariants.{Never, OnceBegun, OnceHeld, OnceDecided, OnceCommitted, OnceAborted, OnceFree, OnceReleased, OnceFewer, Unknown}
 
 -- no later events let the machine admit it
 abbrev pub IsHopeless : {A : Type 0} → State A → Event A → Type 0
@@ -33,13 +33,13 @@ OnlyWhere {A} P state e =
 
 -- whether the operation of this number blocks the event: it is in progress and conflicts with it, and its holder is another
 -- transaction, not exempt by the acting transaction's class, which hasn't permitted it to work on the object
-abbrev pub stands_in : {A : Type 0} → Parts A → Summary → Event A → ℕ → Bool
-stands_in m s (Operate t ob op) n = option_map_or (stands_against m s t.0 ob op) (operation_at s.operations n) false
-stands_in m s _ n = false
+abbrev pub is_blocking : {A : Type 0} → Parts A → Summary → Event A → ℕ → Bool
+is_blocking m s (Operate t ob op) n = option_map_or (stands_against m s t.0 ob op) (operation_at s.operations n) false
+is_blocking m s _ n = false
 
 -- the same for a machine's state
-abbrev pub stands_in_way : {A : Type 0} → State A → Event A → OpNo → Bool
-stands_in_way state e op = stands_in state.model (summary_of state.model state.kept) e op.0
+abbrev pub is_blocking_in : {A : Type 0} → State A → Event A → OpNo → Bool
+is_blocking_in state e op = is_blocking state.model (summary_of state.model state.kept) e op.0
 
 -- the holders of operations that block the event
 abbrev pub conflicting_holders_of : {A : Type 0} → Parts A → Summary → Event A → List ℕ
@@ -70,8 +70,8 @@ Holds state e (OnceHeld t op) = OnlyWhere (λ later. is_held_in t.0 (operations_
 Holds state e (OnceDecided t) = OnlyWhere (λ later. is_decided (status_in later t.0) ≡ true) state e
 Holds state e (OnceCommitted t) = OnlyWhere (λ later. status_in later t.0 ≡ Committed) state e
 Holds state e (OnceAborted t) = OnlyWhere (λ later. status_in later t.0 ≡ Aborted) state e
-Holds state e (OnceFree op) = OnlyWhere (λ later. stands_in_way later e op ≡ false) state e
-Holds state e (OnceLetGo t op) = OnlyWhere (λ later. is_held_in t.0 (operations_in later) op ≡ false) state e
+Holds state e (OnceFree op) = OnlyWhere (λ later. is_blocking_in later e op ≡ false) state e
+Holds state e (OnceReleased t op) = OnlyWhere (λ later. is_held_in t.0 (operations_in later) op ≡ false) state e
 Holds state e OnceFewer = OnlyWhere (λ later. are_listed (conflicting_holders_in state e) (conflicting_holders_in later e) ≡ false) state e
 Holds state e Unknown = ⊤
 
@@ -101,6 +101,6 @@ MayBeUnreported _ = ⊥
 
 -- the operation that the reason names blocks the event, or the event breaks the rule by the edge that the reason names
 abbrev pub HasForce : {A : Type 0} → State A → Event A → Reason → Type 0
-HasForce state e (Conflict op) = stands_in_way state e op.number ≡ true
+HasForce state e (Conflict op) = is_blocking_in state e op.number ≡ true
 HasForce state e (Blocked blocking_edge) = is_of_edge blocking_edge.rule ≡ true → edge_test e blocking_edge.rule (status_in state) blocking_edge.by.edge ≡ true
 HasForce state e _ = ⊤

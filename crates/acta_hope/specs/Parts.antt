@@ -24,7 +24,7 @@ use Rattle.acta_machine.specs.Summary.{Summary}
 use Rattle.acta_machine.specs.declared.reason.NumberedOp.{NumberedOp}
 use Rattle.acta_hope.specs.Hopes.{is_operate}
 use Rattle.acta_hope.specs.declared.hoping.Hope.{Hope}
-use Rattle.acta_hope.specs.declared.hoping.Hope.TheVariants.{Never, OnceBegun, OnceHeld, OnceDecided, OnceCommitted, OnceAborted, OnceFree, OnceLetGo, OnceFewer, Unknown}
+use Rattle.acta_hope.specs.declared.hoping.Hope.TheVariants.{Never, OnceBegun, OnceHeld, OnceDecided, OnceCommitted, OnceAborted, OnceFree, OnceReleased, OnceFewer, Unknown}
 
 -- the hope if t has to be in progress: `Never` only if t has ended, otherwise `OnceBegun`, or `Unknown` while t is in
 -- progress
@@ -42,7 +42,7 @@ IsOfHeld e n _ = ⊥
 
 -- the hope if the acting transaction may not hold the operation
 abbrev pub IsOfLeftOut : {A : Type 0} → Event A → OpNo → Hope → Type 0
-IsOfLeftOut e n (OnceLetGo t k) = (k ≡ n) × (acting e ≡ Some t.0)
+IsOfLeftOut e n (OnceReleased t k) = (k ≡ n) × (acting e ≡ Some t.0)
 IsOfLeftOut e n Unknown = acting e ≡ None
 IsOfLeftOut e n _ = ⊥
 

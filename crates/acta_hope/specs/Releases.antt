@@ -16,7 +16,7 @@ use Rattle.acta_machine.specs.Families.{exempt, heir_of}
 use Rattle.acta_machine.specs.Rules.{txn_may}
 use Rattle.acta_machine.specs.Summary.{Summary}
 use Rattle.acta_machine.specs.Table.{State, after, operations_in, refusal_in}
-use Rattle.acta_hope.specs.Hopes.{stands_in_way}
+use Rattle.acta_hope.specs.Hopes.{is_blocking_in}
 use Rattle.acta_hope.specs.declared.releases.Release.{Release}
 use Rattle.acta_hope.specs.declared.releases.Release.TheVariants.{Commit, Abort, Delegate, Join, Permit}
 
@@ -37,10 +37,10 @@ may_release m s t h Join = txn_may m s h kind.Join
 may_release m s t h Permit = txn_may m s h kind.Permit
 
 -- whether the holder of the operation may release it in this way for the acting transaction
-abbrev pub may_let_go : {A : Type 0} → State A → Event A → OpNo → Release → Bool
-may_let_go state (event.Operate t ob op) n release =
+abbrev pub may_be_released : {A : Type 0} → State A → Event A → OpNo → Release → Bool
+may_be_released state (event.Operate t ob op) n release =
     option_map_or (λ i. may_release state.model (summary_of state.model state.kept) t.0 i.holder.0 release) (operation_at (operations_in state) n.0) false
-may_let_go state _ n release = false
+may_be_released state _ n release = false
 
 -- the event by which the holder of operation n releases it for t
 abbrev pub IsRelease : {A : Type 0} → TxnId → OpNo → HeldOp → Release → Event A → Type 0
@@ -51,7 +51,7 @@ IsRelease t n i Join e = e ≡ event.Join i.holder t
 IsRelease t n i Permit e = e ≡ event.Permit i.holder t i.ob
 
 -- right after the holder's release is admitted, the operation no longer blocks the event
-abbrev pub LetsGo : {A : Type 0} → State A → Event A → OpNo → Release → Type 0
-LetsGo {A} state e n release =
+abbrev pub IsReleased : {A : Type 0} → State A → Event A → OpNo → Release → Type 0
+IsReleased {A} state e n release =
     (t : TxnId) (i : HeldOp) (r : Event A) → acting e ≡ Some t.0 → operation_at (operations_in state) n.0 ≡ Some i
-    → IsRelease t n i release r → refusal_in state r ≡ None → stands_in_way (after state r) e n ≡ false
+    → IsRelease t n i release r → refusal_in state r ≡ None → is_blocking_in (after state r) e n ≡ false

@@ -2,7 +2,7 @@
 
 ghost use Rattle.std.specs.Prelude.{◌≡◌, ◌≢◌, ◌<◌, ◌≤◌, ◌+◌, ℕ, All, true, IfOk, IfSome, None, OnOk, length, get_or};
 ghost use Rattle.acta_machine.specs.Table.{refusal_in};
-ghost use Rattle.acta_hope.specs.Deadlocks.{Awaits, IsCircle, awaited_in, is_linked};
+ghost use Rattle.acta_hope.specs.Deadlocks.{Awaits, IsCycle, awaited_in, is_linked};
 
 use crate::hoping::{Hope, why_and_hope};
 use crate::releases::operation_at;
@@ -36,7 +36,7 @@ fn awaited_in<A: Handle>(machine: &Machine<A>, until: Hope) -> Option<TxnId>
         },
         Hope::Never
         | Hope::OnceHeld(_, _)
-        | Hope::OnceLetGo(_, _)
+        | Hope::OnceReleased(_, _)
         | Hope::OnceFewer
         | Hope::Unknown => None,
     }
@@ -95,14 +95,14 @@ fn is_chain(waits: &[Wait], places: &[usize]) -> bool
 }
 
 // Whether these places form a cycle.
-fn is_circle(waits: &[Wait], places: &[usize]) -> bool
-    ensures { result ≡ true → IsCircle waits.now places.now }
+fn is_cycle(waits: &[Wait], places: &[usize]) -> bool
+    ensures { result ≡ true → IsCycle waits.now places.now }
 {
     places.len() >= 2 && places[0] == places[places.len() - 1] && is_chain(waits, places)
 }
 
 // Follows the waits from this place on until they return to it.
-fn way_round<A: Allocator>(
+fn cycle_from<A: Allocator>(
     alloc: A,
     waits: &[Wait],
     start: usize,
@@ -152,7 +152,7 @@ pub fn deadlocks<A: Allocator + Copy>(
     alloc: A,
     waits: &[Wait],
 ) -> Result<Vec<Items<usize, A>, A>, AllocError>
-    ensures { IfOk result (λ circles. All (IsCircle waits.now) circles.items) }
+    ensures { IfOk result (λ circles. All (IsCycle waits.now) circles.items) }
 {
     let mut ways = Vec::new(alloc);
     ways.resize(waits.len(), 0usize)?;
@@ -161,8 +161,8 @@ pub fn deadlocks<A: Allocator + Copy>(
         let Some(place) = look_from(waits, &mut ways, start, start + 1) else {
             continue;
         };
-        let circle = way_round(alloc, waits, place)?;
-        if !is_circle(waits, &circle) {
+        let circle = cycle_from(alloc, waits, place)?;
+        if !is_cycle(waits, &circle) {
             continue;
         }
         circles.push(Items::of(circle))?;

@@ -32,7 +32,7 @@ pub enum Hope {
     /// one that its class exempts holds it, or its holder has permitted the acting transaction to work on the object.
     OnceFree(OpNo),
     /// It can be admitted only once the transaction no longer holds the operation in progress.
-    OnceLetGo(TxnId, OpNo),
+    OnceReleased(TxnId, OpNo),
     /// It can be admitted only once at least one of the present conflicting holders is no longer one.
     OnceFewer,
     /// Nothing is known.
@@ -61,11 +61,11 @@ fn once_held<A: Handle>(event: &Event<A>, number: OpNo) -> Hope
 }
 
 // The hope if the acting transaction may not hold the operation in progress.
-fn once_let_go<A: Handle>(event: &Event<A>, number: OpNo) -> Hope
+fn once_released<A: Handle>(event: &Event<A>, number: OpNo) -> Hope
     ensures { IsOfLeftOut event.now number result }
 {
     match event.acting() {
-        Some(txn) => Hope::OnceLetGo(txn, number),
+        Some(txn) => Hope::OnceReleased(txn, number),
         None => Hope::Unknown,
     }
 }
@@ -205,7 +205,7 @@ pub fn hope_of<A: Handle>(machine: &Machine<A>, event: &Event<A>, reason: &Reaso
         Reason::Blocked(blocking_edge) => blocked(&blocking_edge),
         Reason::Clash(clash) => owes_both(&clash, machine.status(clash.abort.edge.i)),
         Reason::EdgesFull => too_many_edges(event),
-        Reason::PartialDelegation(op) => once_let_go(event, op.number),
+        Reason::PartialDelegation(op) => once_released(event, op.number),
         Reason::Conflict(op) => in_conflict(machine, event, &op),
     }
 }

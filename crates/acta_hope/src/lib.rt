@@ -16,6 +16,6 @@ mod waiting;
 pub use deadlock::{Wait, deadlocks, wait_of};
 pub use hoping::{Hope, hope_of, why_and_hope};
 pub use laws::later_events_take_nothing_back;
-pub use releases::{Release, heir, is_ancestor, lets_go, operation_at};
+pub use releases::{Release, heir, is_ancestor, is_released, operation_at};
 pub use starts::never_begin;
 pub use waiting::endless_wait;

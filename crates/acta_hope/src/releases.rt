@@ -6,7 +6,7 @@ ghost use Rattle.acta_machine.specs.Families.{ancestors_of, class_of, heir_of};
 ghost use Rattle.acta_machine.specs.Rules.{txn_may};
 ghost use Rattle.acta_machine.specs.Table.{operations_in};
 ghost use Rattle.acta_sets.specs.Operations.{is_among, operation_at};
-ghost use Rattle.acta_hope.specs.Releases.{LetsGo, frees_at_commit, is_exempt, may_let_go, may_release};
+ghost use Rattle.acta_hope.specs.Releases.{IsReleased, frees_at_commit, is_exempt, may_be_released, may_release};
 
 use acta_machine::{Handle, Machine};
 use acta_sets::HeldOp;
@@ -128,14 +128,14 @@ pub fn operation_at<A: Handle>(machine: &Machine<A>, number: OpNo) -> Option<Hel
 /// Whether the class of the operation's holder allows this release. If so, the operation no longer blocks the event right
 /// after the holder's release is admitted. `false` if the event is not an operation, or if there is no operation with this
 /// number.
-pub fn lets_go<A: Handle>(
+pub fn is_released<A: Handle>(
     machine: &Machine<A>,
     event: &Event<A>,
     number: OpNo,
     release: Release,
 ) -> bool
-    ensures may { result ≡ may_let_go machine.now event.now number release }
-    ensures gone { result ≡ true → LetsGo machine.now event.now number release }
+    ensures may { result ≡ may_be_released machine.now event.now number release }
+    ensures gone { result ≡ true → IsReleased machine.now event.now number release }
 {
     let Event::Operate(t, _, _) = event else {
         return false;

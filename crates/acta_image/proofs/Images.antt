@@ -134,13 +134,13 @@ record PartsSaid {A : Type 0} (version : ImageVersion) (m : Parts A) : Type 0 wh
   of_classes : AllByRecursion (ClassSaid version) m.classes
 
 -- the spelling of parts after a head
-record IsBehind {A : Type 0} (h : Head) (m : Parts A) : Type 0 where
+record IsCurrent {A : Type 0} (h : Head) (m : Parts A) : Type 0 where
   classes : length m.classes ≡ h.classes
   objects : length m.objects ≡ h.objects
   of_objects : AllByRecursion ObjectSaid m.objects
   of_classes : AllByRecursion (ClassSaid h.version) m.classes
 
-behind-format : {A : Type 0} (h : Head) (size : ℕ) → IsFormat (behind {A = A} h size) (λ m. flat_map object_bytes m.objects ++ flat_map class_bytes m.classes) (IsBehind h)
+behind-format : {A : Type 0} (h : Head) (size : ℕ) → IsFormat (behind {A = A} h size) (λ m. flat_map object_bytes m.objects ++ flat_map class_bytes m.classes) (IsCurrent h)
 behind-format {A} h size =
     parsed-format
     (then-format (items-format (object-format {A = A} size) h.objects) (λ (m : Parts A). m.objects) _ _ _

@@ -78,8 +78,8 @@ module _ {X : Type 0} (read : List ℕ → Result X LineFault) (ends : List ℕ 
   one_more k = omega arith
 
   -- one line more before the first that passes
-  first_behind : (x : List ℕ) (xs : List (List ℕ)) → ends x ≡ false → position_or_len ends (x ∷ xs) ≡ suc (position_or_len ends xs)
-  first_behind x xs failing = ap (λ (t : Bool). cond (not t) (1 + position_or_len ends xs) 0) failing ∙ one_more (position_or_len ends xs)
+  first_later : (x : List ℕ) (xs : List (List ℕ)) → ends x ≡ false → position_or_len ends (x ∷ xs) ≡ suc (position_or_len ends xs)
+  first_later x xs failing = ap (λ (t : Bool). cond (not t) (1 + position_or_len ends xs) 0) failing ∙ one_more (position_or_len ends xs)
 
   -- where no line stops them, none passes
   pub none_ends : (n : ℕ) (lines : List (List ℕ)) → (parsed_from read n lines).stop ≡ None → position_or_len ends lines ≡ length lines
@@ -87,7 +87,7 @@ module _ {X : Type 0} (read : List ℕ → Result X LineFault) (ends : List ℕ 
   none_ends n (x ∷ xs) h =
       let r = parsed_from read (n + 1) xs in
       let rest = none_ends (n + 1) xs (unstopped n r (parsed_by read x) h) in
-      first_behind x xs (by_test n x r None h (λ e. cc) (ends x) refl) ∙ ap (λ (k : ℕ). suc k) rest
+      first_later x xs (by_test n x r None h (λ e. cc) (ends x) refl) ∙ ap (λ (k : ℕ). suc k) rest
 
   -- where the one that stops them passes, it is the first that does, and those before it say what all say
   pub ends_here : (n i : ℕ) (lines : List (List ℕ)) (line : List ℕ) (rest : List (List ℕ)) (b : BadLine) → (parsed_from read n lines).stop ≡ Some b → b.line ≡ n + i → drop i lines ≡ line ∷ rest → ends line ≡ true
@@ -105,7 +105,7 @@ module _ {X : Type 0} (read : List ℕ → Result X LineFault) (ends : List ℕ 
       let r = parsed_from read (n + 1) xs in
       let lt : n < b.line = omega (arith, at) in
       let next = ends_here (n + 1) i xs line rest b (later n r (parsed_by read x) b h lt) (omega (arith, at)) there passes in
-      let first = first_behind x xs (fails n x r b h lt) in (
+      let first = first_later x xs (fails n x r b h lt) in (
         first ∙ ap (λ (k : ℕ). suc k) next.0,
         ap (λ (k : ℕ). parsed_from read n (take k (x ∷ xs))) first ∙ ap (with_line n (parsed_by read x)) next.1 ∙ unended n r (parsed_by read x) b h lt,
       )
@@ -115,13 +115,13 @@ module _ {X : Type 0} (read : List ℕ → Result X LineFault) (ends : List ℕ 
   goes_past n i [] b h at failing = cc
   goes_past n zero (x ∷ xs) b h at failing =
       let r = parsed_from read (n + 1) xs in
-      ap (λ (k : ℕ). parsed_from read n (take k (x ∷ xs))) (first_behind x xs failing)
+      ap (λ (k : ℕ). parsed_from read n (take k (x ∷ xs))) (first_later x xs failing)
       ∙ stopped n r (parsed_by read x) (parsed_from read (n + 1) (take (position_or_len ends xs) xs)) b h (omega (arith, at)) (numbered (n + 1) xs b)
   goes_past n (suc i) (x ∷ xs) b h at failing =
       let r = parsed_from read (n + 1) xs in
       let lt : n < b.line = omega (arith, at) in
       let next = goes_past (n + 1) i xs b (later n r (parsed_by read x) b h lt) (omega (arith, at)) failing in
-      ap (λ (k : ℕ). parsed_from read n (take k (x ∷ xs))) (first_behind x xs (fails n x r b h lt)) ∙ ap (with_line n (parsed_by read x)) next
+      ap (λ (k : ℕ). parsed_from read n (take k (x ∷ xs))) (first_later x xs (fails n x r b h lt)) ∙ ap (with_line n (parsed_by read x)) next
 
 -- the word `--` is no event
 no_event : {A : Type 0} (m : Parts A) (words : List (List ℕ)) → is_sign words ≡ true → cond (length words == 0) None (Some (parse_event m words)) ≡ Some (Err Word)

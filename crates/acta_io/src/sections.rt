@@ -34,7 +34,7 @@ fn ends_events<A: Allocator + Copy>(alloc: A, line: &[u8]) -> Result<bool, Alloc
 }
 
 // The lines of the input after the first `count`.
-fn lines_behind(input: &[u8], count: usize) -> Lines<'_>
+fn drop_lines(input: &[u8], count: usize) -> Lines<'_>
     ensures lines { lines_to_come result ≡ drop count (lines_of input.now) }
     ensures few { count + length (lines_to_come result) < 2 ^ 64 }
 {
@@ -48,7 +48,7 @@ fn lines_behind(input: &[u8], count: usize) -> Lines<'_>
 }
 
 // The commands after the line that stopped the events, if it is the line `--`.
-fn commands_behind<'a, A: Allocator + Copy>(
+fn commands_after<'a, A: Allocator + Copy>(
     alloc: A,
     model: &Model<A>,
     input: &'a [u8],
@@ -57,7 +57,7 @@ fn commands_behind<'a, A: Allocator + Copy>(
     requires { 0 < stop.line }
     ensures { IfOk result (λ found. option_map parsed_of found ≡ commands_from model.now stop.line (drop (stop.line - 1) (lines_of input.now))) }
 {
-    let mut lines = lines_behind(input, stop.line - 1);
+    let mut lines = drop_lines(input, stop.line - 1);
     let Some(line) = lines.next() else {
         return Ok(None);
     };
@@ -70,7 +70,7 @@ fn commands_behind<'a, A: Allocator + Copy>(
 }
 
 // The script whose events this line stopped. The line is a fault, unless it is the line `--`.
-fn script_behind<'a, A: Allocator + Copy>(
+fn script_after<'a, A: Allocator + Copy>(
     alloc: A,
     model: &Model<A>,
     input: &'a [u8],
@@ -82,7 +82,7 @@ fn script_behind<'a, A: Allocator + Copy>(
     ensures events { IfOk result (λ script. parsed_of script.events ≡ script_events model.now input.now) }
     ensures commands { IfOk result (λ script. IfNone script.events.stop (parsed_of script.commands ≡ script_commands model.now input.now)) }
 {
-    let found = commands_behind(alloc, model, input, stop)?;
+    let found = commands_after(alloc, model, input, stop)?;
     match found {
         Some(commands) => Ok(Script {
             events: Input {
@@ -124,7 +124,7 @@ pub fn read_script<'a, A: Allocator + Copy>(
         stop,
     } = read_lines(alloc, &reader, input)?;
     match stop {
-        Some(stop) => script_behind(alloc, model, input, parsed, lines, stop),
+        Some(stop) => script_after(alloc, model, input, parsed, lines, stop),
         None => Ok(Script {
             events: Input {
                 parsed,

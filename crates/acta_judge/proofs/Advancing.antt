@@ -7,9 +7,9 @@ use Rattle.std.proofs.lemmas.Grind.{flat_map-append}
 use Rattle.std.proofs.lemmas.List.{take_all, take-append-drop}
 use Rattle.acta_table.specs.declared.event.Kept.{Kept}
 use Rattle.acta_axioms.specs.Faults.{faults_at}
-use Rattle.acta_axioms.specs.History.{places_behind}
+use Rattle.acta_axioms.specs.History.{places_after}
 use Rattle.acta_axioms.specs.Walks.{Walked, stepped, with_next}
-use Rattle.acta_axioms.proofs.Growth.{places_behind-append}
+use Rattle.acta_axioms.proofs.Growth.{places_after-append}
 use Rattle.acta_judge.specs.inside.Parts.{advanced, at_end, faults_ahead, faults_left}
 
 drop-add : {X : Type 0} (a b : ℕ) (xs : List X) → drop b (drop a xs) ≡ drop (a + b) xs
@@ -59,21 +59,21 @@ end-advanced n w =
 
 -- the faults at some places and at others after them are those at both
 faults-behind : {A : Type 0} (w : Walked A) (some others : List (Kept A)) →
-    flat_map (faults_at w.model) (places_behind w.front some) ++ flat_map (faults_at w.model) (places_behind (w.front ++ some) others)
-    ≡ flat_map (faults_at w.model) (places_behind w.front (some ++ others))
+    flat_map (faults_at w.model) (places_after w.front some) ++ flat_map (faults_at w.model) (places_after (w.front ++ some) others)
+    ≡ flat_map (faults_at w.model) (places_after w.front (some ++ others))
 faults-behind w some others =
     sym (
-    ap (flat_map (faults_at w.model)) (places_behind-append w.front some others)
-    ∙ flat_map-append (faults_at w.model) (places_behind w.front some) (places_behind (w.front ++ some) others))
+    ap (flat_map (faults_at w.model)) (places_after-append w.front some others)
+    ∙ flat_map-append (faults_at w.model) (places_after w.front some) (places_after (w.front ++ some) others))
 
 -- the faults at some places, and at the next
 pub faults-add : {A : Type 0} (a b : ℕ) (w : Walked A) → faults_ahead a w ++ faults_ahead b (advanced a w) ≡ faults_ahead (a + b) w
 faults-add a b w =
     faults-behind w (take a w.ahead) (take b (drop a w.ahead))
-    ∙ ap (λ ks. flat_map (faults_at w.model) (places_behind w.front ks)) (sym (take-add a b w.ahead))
+    ∙ ap (λ ks. flat_map (faults_at w.model) (places_after w.front ks)) (sym (take-add a b w.ahead))
 
 -- the faults at some places, and at all that are left
 pub faults-rest : {A : Type 0} (n : ℕ) (w : Walked A) → faults_ahead n w ++ faults_left (advanced n w) ≡ faults_left w
 faults-rest n w =
     faults-behind w (take n w.ahead) (drop n w.ahead)
-    ∙ ap (λ ks. flat_map (faults_at w.model) (places_behind w.front ks)) (take-append-drop n w.ahead)
+    ∙ ap (λ ks. flat_map (faults_at w.model) (places_after w.front ks)) (take-append-drop n w.ahead)

@@ -128,10 +128,10 @@ without_first : (e : StartEdge) (es all : List StartEdge) → IsAbove e all → 
 without_first e es [] h = tt
 without_first e es (x ∷ all) h = (ap (λ b. b || is_listed es x) (above_other x e h.0), without_first e es all h.1)
 
-listed_behind : (x : StartEdge) (all es : List StartEdge) → IsAbove x es → AllByRecursion (λ e. is_listed (x ∷ all) e ≡ true) es → AllByRecursion (λ e. is_listed all e ≡ true) es
-listed_behind x all [] above h = tt
-listed_behind x all (e ∷ es) above h =
-    (ap (λ b. b || is_listed all e) (sym (above_other e x above.0)) ∙ h.0, listed_behind x all es above.1 h.1)
+listed_after : (x : StartEdge) (all es : List StartEdge) → IsAbove x es → AllByRecursion (λ e. is_listed (x ∷ all) e ≡ true) es → AllByRecursion (λ e. is_listed all e ≡ true) es
+listed_after x all [] above h = tt
+listed_after x all (e ∷ es) above h =
+    (ap (λ b. b || is_listed all e) (sym (above_other e x above.0)) ∙ h.0, listed_after x all es above.1 h.1)
 
 kept : (all es : List StartEdge) → Ascends all → Ascends es → AllByRecursion (λ e. is_listed all e ≡ true) es → filter (is_listed es) all ≡ es
 kept [] [] a b h = refl
@@ -144,14 +144,14 @@ kept (x ∷ all) (e ∷ es) a b h = elim (cases_Bool (same_start_edge e x)) [
       let over : IsAbove x es = subst (λ (f : StartEdge). IsAbove f es) is b.0 in
       let listed : is_listed (e ∷ es) x ≡ true = ap (λ f. same_start_edge x f || is_listed es x) is ∙ ap (λ b. b || is_listed es x) (same_self x) in
       ap (λ b. cond b (x ∷ filter (is_listed (e ∷ es)) all) (filter (is_listed (e ∷ es)) all)) listed
-      ∙ (λ i. sym is i ∷ (same_filter (is_listed (e ∷ es)) (is_listed es) all (without_first e es all above) ∙ kept all es a.1 b.1 (listed_behind x all es over h.1)) i)
+      ∙ (λ i. sym is i ∷ (same_filter (is_listed (e ∷ es)) (is_listed es) all (without_first e es all above) ∙ kept all es a.1 b.1 (listed_after x all es over h.1)) i)
   | inr other ↦
       let listed : is_listed all e ≡ true = ap (λ b. b || is_listed all e) (sym other) ∙ h.0 in
       let lt : key x < key e = listed_above x e all a.0 listed in
       let over : IsAbove x es = above_all x e es lt b.0 in
       let absent : is_listed (e ∷ es) x ≡ false = or_from _ _ (below_other x e lt) (none_above x es over) in
       ap (λ b. cond b (x ∷ filter (is_listed (e ∷ es)) all) (filter (is_listed (e ∷ es)) all)) absent
-      ∙ kept all (e ∷ es) a.1 b (listed, listed_behind x all es over h.1)
+      ∙ kept all (e ∷ es) a.1 b (listed, listed_after x all es over h.1)
 ]
 
 is_there : (k : Dep) (d : Dependent) → is_listed (flat_map both_of all_kinds) (record { kind = k; dependent = d }) ≡ true

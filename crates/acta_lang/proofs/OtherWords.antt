@@ -14,7 +14,7 @@ use Rattle.acta_lang.specs.declared.form.Form.TheVariants as form
 use Rattle.acta_lang.specs.Drafts.{declared}
 use Rattle.acta_lang.specs.Faults.{bad_word, code_at}
 use Rattle.acta_lang.specs.Forms.{class_form, commit_form, delegation_form, end_form, form_of, may_form, object_form, policy_form, scope_form, spawn_form, split_form, starts_form}
-use Rattle.acta_lang.specs.Meaning.{meaning, meaning_behind}
+use Rattle.acta_lang.specs.Meaning.{meaning, meaning_after}
 use Rattle.acta_lang.proofs.NoCodes.{no_test}
 use Rattle.acta_lang.proofs.Sound.{judged_ok}
 
@@ -85,10 +85,10 @@ no_form line =
 
 -- so that a text that begins so is not a model
 pub no_meaning : {A : Type 0} (bytes : List ℕ) (m : Parts A) → meaning (begun bytes) ≡ Ok m → true ≡ false
-unfolding meaning_behind bad_word
+unfolding meaning_after bad_word
 no_meaning {A} bytes m means = of_lines (lines_left bytes) means
   where
-    of_line : (line : List ℕ) (lines : List (List ℕ)) → meaning_behind {A = A} [] (begun line ∷ lines) ≡ Ok m → true ≡ false
+    of_line : (line : List ℕ) (lines : List (List ℕ)) → meaning_after {A = A} [] (begun line ∷ lines) ≡ Ok m → true ≡ false
     of_line line lines e =
         let d = declared {A = A} [] in
         let is_last = length lines == 0 in
@@ -96,6 +96,6 @@ no_meaning {A} bytes m means = of_lines (lines_left bytes) means
         let none = (judged_ok 1 (code_at d is_last (begun line)) _ m e).0 in
         sym (ap bad_word (no_form line)) ∙ (no_test d is_last (begun line) words (form_of words) none).known
 
-    of_lines : (lines : List (List ℕ)) → meaning_behind {A = A} [] (onto lines) ≡ Ok m → true ≡ false
+    of_lines : (lines : List (List ℕ)) → meaning_after {A = A} [] (onto lines) ≡ Ok m → true ≡ false
     of_lines [] e = of_line [] [] e
     of_lines (line ∷ lines) e = of_line line lines e

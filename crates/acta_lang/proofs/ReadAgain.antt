@@ -42,7 +42,7 @@ use Rattle.acta_lang.specs.Drafts.{Draft, OpenClass, closed, extended, nothing_y
 use Rattle.acta_lang.specs.Faults.{bad_word, bad_name, duplicate_name, wrong_place, bad_number, too_many, missing_end, missing_part, begin_kind_at_start, heir_without_spawn, bad_policy_kind, lowest_of}
 use Rattle.acta_table.specs.Typed.{AreOfModel, HasFirst, HasSets}
 use Rattle.acta_lang.specs.Forms.{form_of}
-use Rattle.acta_lang.specs.Meaning.{judged, meaning, meaning_behind}
+use Rattle.acta_lang.specs.Meaning.{judged, meaning, meaning_after}
 use Rattle.acta_lang.specs.Words.{commit_word, extent_word, may_kinds, may_word, scope_word}
 use Rattle.acta_lang.proofs.EdgesAgain.{once_again}
 use Rattle.acta_lang.proofs.FormsAgain.{commit_again, extent_again, first_again, integer_again, may_again, policy_again, scope_again, spawn_again, split_again, starts_again}
@@ -50,7 +50,7 @@ use Rattle.acta_lang.proofs.Held.{one_more}
 use Rattle.acta_lang.proofs.NoCodes.{clear}
 use Rattle.acta_lang.proofs.Sound.{new_from_apart}
 use Rattle.acta_lang.proofs.Tidy.{are_words, is_tidy_word, line_ascii, one_line, tidy_kept, tidy_name, tidy_number}
-use Rattle.acta_lang.proofs.Turns.{behind_is_from, meaning_from}
+use Rattle.acta_lang.proofs.Turns.{after_is_from, meaning_from}
 
 -- one line without a code: the lines after it are read
 step : {A : Type 0} (n : ℕ) (d : Draft A) (words : List (List ℕ)) (parsed : Form) (lines : List (List ℕ)) (is_last : Bool) → (length lines == 0) ≡ is_last → list_all is_tidy_word words ≡ true → form_of words ≡ parsed
@@ -63,12 +63,12 @@ step n d words parsed lines is_last last tidy is none =
     ∙ (λ i. judged n (lowest_of d (extended d words (is i)) is_last (line_of words) words (is i)) (meaning_from (n + 1) (extended d words (is i)) lines))
     ∙ ap (λ o. judged n o (meaning_from (n + 1) (extended d words parsed) lines)) none
 
-some_behind : {X : Type 0} (xs : List X) (y : X) (ys : List X) → (length (xs ++ y ∷ ys) == 0) ≡ false
-some_behind xs y ys = ne_eqb (length (xs ++ y ∷ ys)) 0 (λ e. omega (arith, e, length-append xs (y ∷ ys)))
+some_after : {X : Type 0} (xs : List X) (y : X) (ys : List X) → (length (xs ++ y ∷ ys) == 0) ≡ false
+some_after xs y ys = ne_eqb (length (xs ++ y ∷ ys)) 0 (λ e. omega (arith, e, length-append xs (y ∷ ys)))
 
-more_behind : {X : Type 0} (xs ys : List X) → (length ys == 0) ≡ false → (length (xs ++ ys) == 0) ≡ false
-more_behind [] ys more = more
-more_behind (x ∷ xs) ys more = some_behind [] x (xs ++ ys)
+more_after : {X : Type 0} (xs ys : List X) → (length ys == 0) ≡ false → (length (xs ++ ys) == 0) ≡ false
+more_after [] ys more = more
+more_after (x ∷ xs) ys more = some_after [] x (xs ++ ys)
 
 among_none : {A : Type 0} (cs : List (Class A)) (name : List ℕ) → is_word_among (map (λ c. c.name) cs) name ≡ false → is_word_among (map (λ c. c.name) cs ++ []) name ≡ false
 among_none {A = A} cs name new = ap (λ names. is_word_among names name) (append-nil (map (λ (c : Class A). c.name) cs)) ∙ new
@@ -116,7 +116,7 @@ objects_again {A = A} n os (o ∷ todo) next rest r fits named apart few then =
     let names = and_parts (is_name o.name) (list_all is_name (map (λ (o : Object A). o.name) todo)) named in
     let new = new_from_apart (map (λ (o : Object A). o.name) os) o.name (map (λ (o : Object A). o.name) todo) (ap has_twice (sym (map-append (λ (o : Object A). o.name) os (o ∷ todo))) ∙ apart) in
     let together : (os ++ o ∷ []) ++ todo ≡ os ++ (o ∷ todo) = append_assoc os (o ∷ []) todo in
-    object_line n os o.name o.kind (map line_of (map object_words todo) ++ next ∷ rest) (some_behind (map line_of (map object_words todo)) next rest) fits.0 names.0 new (omega (arith, few, length-append os (o ∷ todo)))
+    object_line n os o.name o.kind (map line_of (map object_words todo) ++ next ∷ rest) (some_after (map line_of (map object_words todo)) next rest) fits.0 names.0 new (omega (arith, few, length-append os (o ∷ todo)))
     ∙ objects_again (n + 1) (os ++ o ∷ []) todo next rest r fits.1 names.1 (ap (λ (l : List (Object A)). has_twice (map (λ o. o.name) l)) together ∙ apart) (omega (arith, few, ap length together))
     (λ k. ap (λ (l : List (Object A)). meaning_from k (at l [] None) (next ∷ rest)) together ∙ then k)
 
@@ -205,7 +205,7 @@ spawns_again {A = A} n os cs c es (e ∷ todo) lines r more late then =
     let kinds = or_parts (is_begin_kind e.kind) (has_begin_edge todo) late in
     let d : Draft A = at os cs (Some (parsed_but c es [])) in
     let together : (es ++ e ∷ []) ++ todo ≡ es ++ (e ∷ todo) = append_assoc es (e ∷ []) todo in
-    step n d words (form.Spawn e) (map line_of (map (edge_words (codes "spawn")) todo) ++ lines) false (more_behind (map line_of (map (edge_words (codes "spawn")) todo)) lines more) tidy (spawn_again e.kind e.dependent)
+    step n d words (form.Spawn e) (map line_of (map (edge_words (codes "spawn")) todo) ++ lines) false (more_after (map line_of (map (edge_words (codes "spawn")) todo)) lines more) tidy (spawn_again e.kind e.dependent)
     (clear d (extended d words (form.Spawn e)) false (line_of words) words (form.Spawn e) (line_ascii words tidy) refl refl refl refl refl refl refl refl kinds.0 refl refl)
     ∙ spawns_again (n + 1) os cs c (es ++ e ∷ []) todo lines r more kinds.1 (λ k. ap (λ (l : List StartEdge). meaning_from k (at os cs (Some (parsed_but c l []))) lines) together ∙ then k)
 
@@ -220,7 +220,7 @@ splits_again {A = A} n os cs c spawns es (e ∷ todo) lines r more late then =
     let kinds = or_parts (is_begin_kind e.kind) (has_begin_edge todo) late in
     let d : Draft A = at os cs (Some (parsed_but c spawns es)) in
     let together : (es ++ e ∷ []) ++ todo ≡ es ++ (e ∷ todo) = append_assoc es (e ∷ []) todo in
-    step n d words (form.Split e) (map line_of (map (edge_words (codes "split")) todo) ++ lines) false (more_behind (map line_of (map (edge_words (codes "split")) todo)) lines more) tidy (split_again e.kind e.dependent)
+    step n d words (form.Split e) (map line_of (map (edge_words (codes "split")) todo) ++ lines) false (more_after (map line_of (map (edge_words (codes "split")) todo)) lines more) tidy (split_again e.kind e.dependent)
     (clear d (extended d words (form.Split e)) false (line_of words) words (form.Split e) (line_ascii words tidy) refl refl refl refl refl refl refl refl kinds.0 refl refl)
     ∙ splits_again (n + 1) os cs c spawns (es ++ e ∷ []) todo lines r more kinds.1 (λ k. ap (λ (l : List StartEdge). meaning_from k (at os cs (Some (parsed_but c spawns l))) lines) together ∙ then k)
 
@@ -274,22 +274,22 @@ class_again {A = A} n os cs c lines r whole new room then =
     let c6 : OpenClass = record c5 { at_commit = Some c.at_commit } in
     let named : list_all is_tidy_word name ≡ true = and_from (is_tidy_word c.name) true (tidy_name c.name whole.named) refl in
     ap (λ l. meaning_from n (at os cs None) (line_of name ∷ line_of starts ∷ line_of may ∷ line_of scope ∷ line_of policy ∷ line_of commit ∷ line_of extent ∷ l)) parted
-    ∙ step n (at os cs None) name form.Class l2 false (some_behind [] (line_of starts) l3) named refl
+    ∙ step n (at os cs None) name form.Class l2 false (some_after [] (line_of starts) l3) named refl
     (clear (at os cs None) (at os cs (Some c1)) false (line_of name) name form.Class (line_ascii name named) refl (ap not whole.named) (among_none cs c.name new) refl refl (lt-leb MOST_CLASSES (length cs) room) refl refl refl refl refl)
-    ∙ step (n + 1) (at os cs (Some c1)) starts (form.Starts c.starts) l3 false (some_behind [] (line_of may) l4) (starts_tidy c.starts.begin c.starts.spawned c.starts.split) (starts_again c.starts.begin c.starts.spawned c.starts.split)
+    ∙ step (n + 1) (at os cs (Some c1)) starts (form.Starts c.starts) l3 false (some_after [] (line_of may) l4) (starts_tidy c.starts.begin c.starts.spawned c.starts.split) (starts_again c.starts.begin c.starts.spawned c.starts.split)
     (clear (at os cs (Some c1)) (at os cs (Some c2)) false (line_of starts) starts (form.Starts c.starts) (line_ascii starts (starts_tidy c.starts.begin c.starts.spawned c.starts.split)) refl refl refl refl refl refl refl refl refl refl refl)
-    ∙ step (n + 1 + 1) (at os cs (Some c2)) may (form.May c.may) l4 false (some_behind [] (line_of scope) l5) (may_tidy c.may) (may_again c.may whole.sets.may)
+    ∙ step (n + 1 + 1) (at os cs (Some c2)) may (form.May c.may) l4 false (some_after [] (line_of scope) l5) (may_tidy c.may) (may_again c.may whole.sets.may)
     (clear (at os cs (Some c2)) (at os cs (Some c3)) false (line_of may) may (form.May c.may) (line_ascii may (may_tidy c.may)) refl refl refl refl refl refl refl refl refl refl refl)
-    ∙ step (n + 1 + 1 + 1) (at os cs (Some c3)) scope (form.Scope c.scope) l5 false (some_behind [] (line_of policy) l6) (scope_tidy c.scope) (scope_again c.scope)
+    ∙ step (n + 1 + 1 + 1) (at os cs (Some c3)) scope (form.Scope c.scope) l5 false (some_after [] (line_of policy) l6) (scope_tidy c.scope) (scope_again c.scope)
     (clear (at os cs (Some c3)) (at os cs (Some c4)) false (line_of scope) scope (form.Scope c.scope) (line_ascii scope (scope_tidy c.scope)) refl refl refl refl refl refl refl refl refl refl refl)
-    ∙ step (n + 1 + 1 + 1 + 1) (at os cs (Some c4)) policy (form.Policy c.policy) l6 false (some_behind [] (line_of commit) l7) (policy_tidy c.policy) (policy_again c.policy whole.sets.policy)
+    ∙ step (n + 1 + 1 + 1 + 1) (at os cs (Some c4)) policy (form.Policy c.policy) l6 false (some_after [] (line_of commit) l7) (policy_tidy c.policy) (policy_again c.policy whole.sets.policy)
     (clear (at os cs (Some c4)) (at os cs (Some c5)) false (line_of policy) policy (form.Policy c.policy) (line_ascii policy (policy_tidy c.policy)) refl refl refl refl refl refl refl refl refl refl whole.policy)
-    ∙ step (n + 1 + 1 + 1 + 1 + 1) (at os cs (Some c5)) commit (form.Commit c.at_commit) l7 false (some_behind [] (line_of extent) tail) (commit_tidy c.at_commit) (commit_again c.at_commit)
+    ∙ step (n + 1 + 1 + 1 + 1 + 1) (at os cs (Some c5)) commit (form.Commit c.at_commit) l7 false (some_after [] (line_of extent) tail) (commit_tidy c.at_commit) (commit_again c.at_commit)
     (clear (at os cs (Some c5)) (at os cs (Some c6)) false (line_of commit) commit (form.Commit c.at_commit) (line_ascii commit (commit_tidy c.at_commit)) refl refl refl refl refl refl refl refl refl refl refl)
-    ∙ step (n + 1 + 1 + 1 + 1 + 1 + 1) (at os cs (Some c6)) extent (form.Delegation c.extent) tail false (more_behind (map line_of spawns) (map line_of splits ++ end ∷ lines) (some_behind (map line_of splits) end lines)) (extent_tidy c.extent) (extent_again c.extent)
+    ∙ step (n + 1 + 1 + 1 + 1 + 1 + 1) (at os cs (Some c6)) extent (form.Delegation c.extent) tail false (more_after (map line_of spawns) (map line_of splits ++ end ∷ lines) (some_after (map line_of splits) end lines)) (extent_tidy c.extent) (extent_again c.extent)
     (clear (at os cs (Some c6)) (at os cs (Some (parsed_but c [] []))) false (line_of extent) extent (form.Delegation c.extent) (line_ascii extent (extent_tidy c.extent)) refl refl refl refl refl refl refl refl refl refl refl)
-    ∙ spawns_again (n + 1 + 1 + 1 + 1 + 1 + 1 + 1) os cs c [] c.spawn_edges (map line_of splits ++ end ∷ lines) r (some_behind (map line_of splits) end lines) whole.spawns
-    (λ k. splits_again k os cs c c.spawn_edges [] c.split_edges (end ∷ lines) r (some_behind [] end lines) whole.splits
+    ∙ spawns_again (n + 1 + 1 + 1 + 1 + 1 + 1 + 1) os cs c [] c.spawn_edges (map line_of splits ++ end ∷ lines) r (some_after (map line_of splits) end lines) whole.spawns
+    (λ k. splits_again k os cs c c.spawn_edges [] c.split_edges (end ∷ lines) r (some_after [] end lines) whole.splits
     (λ k. end_again k os cs c lines whole ∙ then (k + 1)))
 
 -- the lines of all classes
@@ -367,12 +367,12 @@ model_again {A = A} os (c ∷ cs) some fits named apart few whole once small =
     let classes : List (List ℕ) = map line_of (flat_map class_words (c ∷ cs)) in
     let next = line_of (codes "class" ∷ c.name ∷ []) in
     let parted : lines ≡ objects ++ classes = map-append line_of (map object_words os) (flat_map class_words (c ∷ cs)) in
-    let more : (length lines == 0) ≡ false = ap (λ l. length l == 0) parted ∙ some_behind objects next (drop 1 classes) in
+    let more : (length lines == 0) ≡ false = ap (λ l. length l == 0) parted ∙ some_after objects next (drop 1 classes) in
     let tidy : are_tidy (model_words m) ≡ true =
     list_all-append (λ words. list_all is_tidy_word words) (map object_words os) (flat_map class_words (c ∷ cs))
     ∙ and_from (are_tidy (map object_words os)) (are_tidy (flat_map class_words (c ∷ cs))) (objects_tidy os fits named) (classes_tidy (c ∷ cs) whole) in
-    ap (meaning_behind []) (lines_all lines more (one_lines (model_words m) tidy))
-    ∙ behind_is_from [] lines
+    ap (meaning_after []) (lines_all lines more (one_lines (model_words m) tidy))
+    ∙ after_is_from [] lines
     ∙ ap (meaning_from 1 nothing_yet) parted
     ∙ objects_again 1 [] os next (drop 1 classes) (Ok m) fits named apart few (λ k. classes_again k os [] (c ∷ cs) whole once small)
 

@@ -34,7 +34,7 @@ use Rattle.acta_lang.specs.Faults.{object_names, class_names, wrong_place, begin
 use Rattle.acta_lang.specs.Forms.{form_of, name_in, value_in}
 use Rattle.acta_lang.specs.Meaning.{judged, meaning}
 use Rattle.acta_lang.proofs.NoCodes.{HasNoCode, no_test}
-use Rattle.acta_lang.proofs.Turns.{meaning_from, behind_is_from}
+use Rattle.acta_lang.proofs.Turns.{meaning_from, after_is_from}
 
 -- an open class: no edge at a start is of a begin kind, and its policy is allowed in a model
 pub record IsFaultlessClass (c : OpenClass) : Type 0 where
@@ -316,4 +316,4 @@ sound_from n d line (next ∷ lines) m h means =
 pub is_sound : {A : Type 0} (text : List ℕ) (m : Parts A) → meaning text ≡ Ok m → lowest_fault m ≡ None
 is_sound text m means =
     let first = first_line text in
-    sound_from 1 nothing_yet _ _ m nothing_faultless (ap (meaning_from 1 nothing_yet) (sym first) ∙ sym (behind_is_from [] (lines_of text)) ∙ means)
+    sound_from 1 nothing_yet _ _ m nothing_faultless (ap (meaning_from 1 nothing_yet) (sym first) ∙ sym (after_is_from [] (lines_of text)) ∙ means)

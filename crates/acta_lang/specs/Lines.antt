@@ -58,8 +58,8 @@ behind line None = None
 behind line (Some number) = if nat_lt line number then Some number else None
 
 -- the lines of the parts of a class, after the line that begins it
-abbrev pub parts_behind : ℕ → List (List ℕ) → PartLines
-parts_behind line lines = record {
+abbrev pub parts_after : ℕ → List (List ℕ) → PartLines
+parts_after line lines = record {
   starts = behind line (last_line (says is_starts) lines);
   may = behind line (last_line (says is_may) lines);
   scope = behind line (last_line (says is_scope) lines);
@@ -76,7 +76,7 @@ pub record ClassAt : Type 0 where
 
 -- the class of this name that the line of this number begins
 abbrev pub class_since : List ℕ → ℕ → List (List ℕ) → ClassAt
-class_since name line lines = record { name = name; line = line; parts = parts_behind line lines }
+class_since name line lines = record { name = name; line = line; parts = parts_after line lines }
 
 -- the class of this name that the last `class` line begins
 abbrev pub last_class : List ℕ → List (List ℕ) → ClassAt

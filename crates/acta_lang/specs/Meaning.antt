@@ -30,15 +30,15 @@ judged n None rest = rest
 judged n (Some code) rest = Err (record { line = n; code = code })
 
 -- the first fault of the remaining lines, after the lines before them, or what all of them declare
-unfoldable pub meaning_behind : {A : Type 0} → List (List ℕ) → List (List ℕ) → Result (Parts A) AsmFault
-meaning_behind before [] = Ok (parts_of (declared before))
-meaning_behind {A = A} before (line ∷ lines) =
+unfoldable pub meaning_after : {A : Type 0} → List (List ℕ) → List (List ℕ) → Result (Parts A) AsmFault
+meaning_after before [] = Ok (parts_of (declared before))
+meaning_after {A = A} before (line ∷ lines) =
     judged (length before + 1) (code_at {A = A} (declared before) (length lines == 0) line)
-    (meaning_behind (before ++ line ∷ []) lines)
+    (meaning_after (before ++ line ∷ []) lines)
 
 -- the model that the text declares, or the lowest code of its first faulty line
 abbrev pub meaning : {A : Type 0} → List ℕ → Result (Parts A) AsmFault
-meaning text = meaning_behind [] (lines_of text)
+meaning text = meaning_after [] (lines_of text)
 
 -- the error is the text's fault, or lack of memory, whatever the text
 abbrev pub IsWhy : {A : Type 0} → Result (Parts A) AsmFault → AsmError → Type 0

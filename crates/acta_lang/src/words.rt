@@ -6,7 +6,7 @@ ghost use Rattle.acta_lang.specs.Places.{meant_words};
 ghost use Rattle.acta_lang.specs.Words.{start_words, may_word, may_named, dep_named, scope_word, commit_word, extent_word, scope_named, commit_named, extent_named};
 
 use crate::diagnostic::Expected;
-use acta_table::{AtCommit, Dep, EventKind, Extent, Scope};
+use acta_table::{AtCommit, DEP_WORDS, Dep, EventKind, Extent, Scope};
 
 // The words with which lines begin. Some are used elsewhere too.
 pub(crate) const OBJECT: &str = "object";
@@ -209,11 +209,6 @@ const MAY_WORDS: [&str; 9] = [
     SPAWN, SPLIT, JOIN, DELEGATE, FORM, OPERATE, COMMIT, ABORT, PERMIT,
 ];
 
-// The words of the kinds of dependency, by code.
-const KIND_WORDS: [&str; 12] = [
-    "CD", "SCD", "AD", "WD", "TD", "ED", "CMD", "BD", "SD", "BCD", "BAD", "WCD",
-];
-
 /// The words of the language that are allowed where this is expected.
 pub(crate) fn meant_words(expected: Expected) -> &'static [&'static str]
     ensures { map (λ word. word.now) result.now ≡ meant_words expected }
@@ -228,7 +223,7 @@ pub(crate) fn meant_words(expected: Expected) -> &'static [&'static str]
         Expected::Commit => &[KEEPS, TO_PARENT],
         Expected::Delegation => &[WHOLE, ANY],
         Expected::SpawnEnd | Expected::SplitEnd => &[STARTER, STARTED],
-        Expected::Kinds | Expected::SpawnKind | Expected::SplitKind => &KIND_WORDS,
+        Expected::Kinds | Expected::SpawnKind | Expected::SplitKind => &DEP_WORDS,
         _ => &[],
     }
 }

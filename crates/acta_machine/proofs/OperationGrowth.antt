@@ -21,7 +21,7 @@ use Rattle.acta_table.specs.declared.event.Event.{Event}
 use Rattle.acta_table.specs.declared.event.OpNo.{OpNo}
 use Rattle.acta_table.specs.Sets.{is_named}
 use Rattle.acta_table.specs.Fates.{is_open}
-use Rattle.acta_axioms.specs.History.{places_behind}
+use Rattle.acta_axioms.specs.History.{places_after}
 use Rattle.acta_axioms.specs.Operations.{Operation, Standing, held_by, ended_by, heir, carried, standing, operations, is_operate, number_after, operation_in, operation_at}
 use Rattle.acta_axioms.proofs.Growth.{at_end, shown-push, number_after-push}
 use Rattle.acta_sets.specs.declared.held_op.HeldOp.{HeldOp}
@@ -104,25 +104,25 @@ gives t u true o holder Aborted held = absurd (true≢false (sym (held refl) ∙
 -- the operations after some items, transferred by number
 named-transferred : {A : Type 0} (show : Operation → HeldOp) (over : Operation → HeldOp) (holding : HeldOp → Bool) (ops : List OpNo) (u : TxnId) →
     ((o : Operation) → (is_named ops o.number ≡ true → holding (show o) ≡ true) → over o ≡ (if is_named ops o.number then record (show o) { holder = u } else show o)) →
-    (before ks : List (Kept A)) → ((i : ℕ) → is_named ops (number_after before + i) ≡ true → option_map_or holding (slice_get (map show (filter_map operation_at (places_behind before ks))) i) false ≡ true) →
-    map over (filter_map operation_at (places_behind before ks)) ≡ moved_from (number_after before) ops u (map show (filter_map operation_at (places_behind before ks)))
+    (before ks : List (Kept A)) → ((i : ℕ) → is_named ops (number_after before + i) ≡ true → option_map_or holding (slice_get (map show (filter_map operation_at (places_after before ks))) i) false ≡ true) →
+    map over (filter_map operation_at (places_after before ks)) ≡ moved_from (number_after before) ops u (map show (filter_map operation_at (places_after before ks)))
 named-transferred show over holding ops u one before [] held = refl
 named-transferred {A} show over holding ops u one before (k ∷ ks) held =
     of_event k.event (number_after-push before k) held
     (named-transferred show over holding ops u one (before ++ k ∷ []) ks)
   where
     of_event : (e : Event A) → number_after (before ++ k ∷ []) ≡ number_after before + cond (is_operate e) 1 0 →
-        ((i : ℕ) → is_named ops (number_after before + i) ≡ true → option_map_or holding (slice_get (map show (cons_option (operation_in (record { before = before; kept = k }) e) (filter_map operation_at (places_behind (before ++ k ∷ []) ks)))) i) false ≡ true) →
-        (((i : ℕ) → is_named ops (number_after (before ++ k ∷ []) + i) ≡ true → option_map_or holding (slice_get (map show (filter_map operation_at (places_behind (before ++ k ∷ []) ks))) i) false ≡ true) → map over (filter_map operation_at (places_behind (before ++ k ∷ []) ks)) ≡ moved_from (number_after (before ++ k ∷ [])) ops u (map show (filter_map operation_at (places_behind (before ++ k ∷ []) ks)))) →
-        map over (cons_option (operation_in (record { before = before; kept = k }) e) (filter_map operation_at (places_behind (before ++ k ∷ []) ks))) ≡ moved_from (number_after before) ops u (map show (cons_option (operation_in (record { before = before; kept = k }) e) (filter_map operation_at (places_behind (before ++ k ∷ []) ks))))
+        ((i : ℕ) → is_named ops (number_after before + i) ≡ true → option_map_or holding (slice_get (map show (cons_option (operation_in (record { before = before; kept = k }) e) (filter_map operation_at (places_after (before ++ k ∷ []) ks)))) i) false ≡ true) →
+        (((i : ℕ) → is_named ops (number_after (before ++ k ∷ []) + i) ≡ true → option_map_or holding (slice_get (map show (filter_map operation_at (places_after (before ++ k ∷ []) ks))) i) false ≡ true) → map over (filter_map operation_at (places_after (before ++ k ∷ []) ks)) ≡ moved_from (number_after (before ++ k ∷ [])) ops u (map show (filter_map operation_at (places_after (before ++ k ∷ []) ks)))) →
+        map over (cons_option (operation_in (record { before = before; kept = k }) e) (filter_map operation_at (places_after (before ++ k ∷ []) ks))) ≡ moved_from (number_after before) ops u (map show (cons_option (operation_in (record { before = before; kept = k }) e) (filter_map operation_at (places_after (before ++ k ∷ []) ks))))
     of_event (Operate t object op) grown held later =
         let none : number_after before ≡ number_after before + 0 = omega arith in
         let here = one _ (λ named. held 0 (sym (ap (is_named ops) none) ∙ named)) in
         let shifted = later (λ i named. held (suc i) (let same : number_after before + suc i ≡ number_after (before ++ k ∷ []) + i = omega (arith, grown) in ap (is_named ops) same ∙ named)) in
-        (λ i. here i ∷ (shifted ∙ ap (λ n. moved_from n ops u (map show (filter_map operation_at (places_behind (before ++ k ∷ []) ks)))) grown) i)
+        (λ i. here i ∷ (shifted ∙ ap (λ n. moved_from n ops u (map show (filter_map operation_at (places_after (before ++ k ∷ []) ks)))) grown) i)
     of_event _ grown held later =
         let same : number_after (before ++ k ∷ []) ≡ number_after before = omega (arith, grown) in
-        later (λ i named. held i (ap (λ n. is_named ops (n + i)) (sym same) ∙ named)) ∙ ap (λ n. moved_from n ops u (map show (filter_map operation_at (places_behind (before ++ k ∷ []) ks)))) same
+        later (λ i named. held i (ap (λ n. is_named ops (n + i)) (sym same) ∙ named)) ∙ ap (λ n. moved_from n ops u (map show (filter_map operation_at (places_after (before ++ k ∷ []) ks)))) same
 
 -- a delegation by t of operations that it holds
 pub operations-delegate : {A : Type 0} (m : Parts A) (h : List (Kept A)) (ret : Option Ret) (t u : TxnId) (ops : List OpNo) →

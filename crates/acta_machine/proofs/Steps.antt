@@ -48,7 +48,7 @@ use Rattle.acta_axioms.proofs.Growth.{class_in, class_of-push, parent_of-push, s
 use Rattle.acta_axioms.proofs.Permitting.{permitted-push, permits_begun-push, none-permitted}
 use Rattle.acta_axioms.specs.Permits.{is_permitted}
 use Rattle.acta_axioms.specs.inside.TxnRecords.{is_late}
-use Rattle.acta_axioms.specs.inside.Walking.{permits_behind}
+use Rattle.acta_axioms.specs.inside.Walking.{permits_after}
 use Rattle.acta_table.specs.Events.{permits}
 use Rattle.acta_axioms.proofs.Statuses.{is_under_way, is_ended_status, in_progress-status, has_begun-status, status_at-push}
 use Rattle.acta_axioms.proofs.Faultless.{IsFaultless, meets-none, meets-push, well_formed, faultless-begin, faultless-spawn, faultless-split, faultless-join, faultless-delegate, faultless-form, faultless-commit, faultless-abort, faultless-permit}
@@ -338,7 +338,7 @@ module _ {A : Type 0} (m : Parts A) (h : List (Kept A)) (shows : ShowsPlaces m h
   pub permits-begun : (e : Event A) (ret : Option Ret) → Unbroken m s e → ArePermitsBegun (h ++ (record { event = e; ret = ret }) ∷ [])
   permits-begun e ret u = permits_begun-push h (record { event = e; ret = ret }) (permit-begun e u) begun
 
-  permits-on : (e : Event A) (ret : Option Ret) → Unbroken m s e → (w v object : ℕ) → permits_behind false e s.permits w v object ≡ is_permitted (h ++ (record { event = e; ret = ret }) ∷ []) w v object
+  permits-on : (e : Event A) (ret : Option Ret) → Unbroken m s e → (w v object : ℕ) → permits_after false e s.permits w v object ≡ is_permitted (h ++ (record { event = e; ret = ret }) ∷ []) w v object
   permits-on e ret u = permitted-push h (record { event = e; ret = ret }) s.permits shows.permits begun (permits-begun e ret u) (not-late e u)
 
   shows-begin : (t : TxnId) (class : ClassId) (ret : Option Ret) → Unbroken m s (Begin t class) → ShowsPlaces m (h ++ (record { event = Begin t class; ret = ret }) ∷ []) (effect {A = A} m s (Begin t class))

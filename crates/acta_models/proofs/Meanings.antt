@@ -8,13 +8,13 @@ use Rattle.acta_lang.specs.declared.fault.AsmFault.{AsmFault}
 use Rattle.acta_lang.specs.Canonical.{canonical}
 use Rattle.acta_lang.specs.Drafts.{extended}
 use Rattle.acta_lang.specs.Faults.{not_ascii, bad_word, bad_name, duplicate_name, wrong_place, bad_number, too_many, missing_end, missing_part, begin_kind_at_start, heir_without_spawn, bad_policy_kind}
-use Rattle.acta_lang.specs.Meaning.{meaning, meaning_behind}
+use Rattle.acta_lang.specs.Meaning.{meaning, meaning_after}
 use Rattle.acta_models.specs.declared.texts.Standard.{Standard}
 use Rattle.acta_models.specs.declared.texts.Standard.TheVariants.{Atomic, Nested, SplitJoin, Recoverable, Contingent}
 use Rattle.acta_models.specs.Standards.{text_of_standard}
 
 is_meant : (A : Type 0) (name : Standard) → is_ok (meaning {A = A} (text_of_standard name)) ≡ true
-unfolding extended not_ascii bad_word bad_name duplicate_name wrong_place bad_number too_many missing_end missing_part begin_kind_at_start heir_without_spawn bad_policy_kind meaning_behind
+unfolding extended not_ascii bad_word bad_name duplicate_name wrong_place bad_number too_many missing_end missing_part begin_kind_at_start heir_without_spawn bad_policy_kind meaning_after
 is_meant A Atomic = refl
 is_meant A Nested = refl
 is_meant A SplitJoin = refl
@@ -33,7 +33,7 @@ text_again (Ok m) = canonical m
 text_again (Err fault) = []
 
 is_text_again : (A : Type 0) (name : Standard) → text_again (meaning {A = A} (text_of_standard name)) ≡ text_of_standard name
-unfolding text_again canonical extended not_ascii bad_word bad_name duplicate_name wrong_place bad_number too_many missing_end missing_part begin_kind_at_start heir_without_spawn bad_policy_kind meaning_behind
+unfolding text_again canonical extended not_ascii bad_word bad_name duplicate_name wrong_place bad_number too_many missing_end missing_part begin_kind_at_start heir_without_spawn bad_policy_kind meaning_after
 is_text_again A Atomic = rw zero_digit
 is_text_again A Nested = rw zero_digit
 is_text_again A SplitJoin = rw zero_digit

@@ -15,11 +15,11 @@ use Rattle.acta_table.specs.declared.event.TxnId.{TxnId}
 use Rattle.acta_table.specs.declared.model.Parts.{Parts}
 use Rattle.acta_table.specs.Fates.{is_committed}
 use Rattle.acta_sets.specs.declared.held_op.HeldOp.{HeldOp}
-use Rattle.acta_axioms.specs.History.{places_behind, places}
+use Rattle.acta_axioms.specs.History.{places_after, places}
 use Rattle.acta_axioms.specs.Operations.{Operation, Standing, is_operate, number_after, operation_at, operation_in, operations, standing}
 use Rattle.acta_axioms.specs.Serial.{is_of_group, group_of}
 use Rattle.acta_axioms.specs.Walks.{held_op, held_ops}
-use Rattle.acta_axioms.proofs.Growth.{at_end, added, operations-push, number_after-push, places_behind-append}
+use Rattle.acta_axioms.proofs.Growth.{at_end, added, operations-push, number_after-push, places_after-append}
 use Rattle.acta_order.specs.declared.item.Item.{Item}
 use Rattle.acta_order.specs.Search.{item_of}
 
@@ -76,14 +76,14 @@ long-mid (z ∷ xs) x ys = let later = long-mid xs x ys in omega (arith, later)
 
 -- the operations of a list, about the one at a place
 abbrev rest_of : {A : Type 0} → List (Kept A) → ℕ → List Operation
-rest_of kept i = filter_map operation_at (places_behind (take (i + 1) kept) (drop (i + 1) kept))
+rest_of kept i = filter_map operation_at (places_after (take (i + 1) kept) (drop (i + 1) kept))
 
 about : {A : Type 0} (kept : List (Kept A)) (i : ℕ) (k : Kept A) (u : TxnId) (ob : ObjId) (op : Op) → i < length kept → k ≡ get_or kept i k → k.event ≡ Operate u ob op
     → operations kept ≡ operations (take i kept) ++ done_by (take i kept) k u ob op ∷ rest_of kept i
 about kept i k u ob op within is operates =
     ap operations (sym (take-append-drop (i + 1) kept))
-    ∙ ap (filter_map operation_at) (places_behind-append [] (take (i + 1) kept) (drop (i + 1) kept))
-    ∙ filter_map-append operation_at (places (take (i + 1) kept)) (places_behind (take (i + 1) kept) (drop (i + 1) kept))
+    ∙ ap (filter_map operation_at) (places_after-append [] (take (i + 1) kept) (drop (i + 1) kept))
+    ∙ filter_map-append operation_at (places (take (i + 1) kept)) (places_after (take (i + 1) kept) (drop (i + 1) kept))
     ∙ ap (λ (os : List Operation). os ++ rest_of kept i)
     (ap operations (one-more kept i k within is) ∙ operations-push (take i kept) k ∙ ap (λ (os : List Operation). operations (take i kept) ++ os) (added-is (take i kept) k u ob op operates))
     ∙ append_assoc (operations (take i kept)) (done_by (take i kept) k u ob op ∷ []) (rest_of kept i)

@@ -8,7 +8,7 @@ use Rattle.acta_table.specs.declared.event.Kept.{Kept}
 use Rattle.acta_table.specs.declared.limits.TheConstants.{MOST_EVENTS}
 use Rattle.acta_table.specs.declared.model.Parts.{Parts}
 use Rattle.acta_table.specs.Fates.{is_committed}
-use Rattle.acta_axioms.specs.History.{places, places_behind}
+use Rattle.acta_axioms.specs.History.{places, places_after}
 use Rattle.acta_axioms.specs.Operations.{Operation, operation_at, operations, standing}
 use Rattle.acta_order.specs.declared.item.Item.{Item}
 use Rattle.acta_order.specs.Faults.{AreFew}
@@ -82,7 +82,7 @@ mapped-few {X} {Y} f (x ∷ xs) = of (mapped-few f xs) (f x)
     of rest None = omega (arith, rest)
     of rest (Some y) = omega (arith, rest)
 
-places-long : {A : Type 0} (before h : List (Kept A)) → length (places_behind before h) ≡ length h
+places-long : {A : Type 0} (before h : List (Kept A)) → length (places_after before h) ≡ length h
 places-long before [] = refl
 places-long {A} before (k ∷ h) = let rest = places-long (before ++ k ∷ []) h in omega (arith, rest)
 

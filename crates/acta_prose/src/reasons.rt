@@ -9,7 +9,7 @@ use crate::phrases::{
 };
 use crate::prose::Prose;
 use crate::put;
-use acta_hope::{Hope, Release, endless_wait, heir, is_ancestor, lets_go, operation_at};
+use acta_hope::{Hope, Release, endless_wait, heir, is_ancestor, is_released, operation_at};
 use acta_machine::{BlockingEdge, Clash, FormFault, Handle, Lack, Machine, NumberedOp, Reason};
 use acta_script::{event_word, object_name};
 use acta_table::{Class, Dep, Edge, Event, EventKind, Fate, OpNo, Rule, Status, TxnId};
@@ -153,7 +153,7 @@ impl<'a, A: Handle> Refused<'a, A> {
                 let prose = put!(prose; when, "operation ", op.0, " no longer blocks it");
                 self.put_releases(prose, op).put(".")
             }
-            Hope::OnceLetGo(t, op) => {
+            Hope::OnceReleased(t, op) => {
                 put!(prose; when, t.0, " no longer holds operation ", op.0, ".")
             }
             Hope::OnceFewer => {
@@ -358,7 +358,7 @@ impl<'a, A: Handle> Refused<'a, A> {
         };
         let t = first_named(self.event);
         let object = name_text(object_name(self.machine.model(), op.ob));
-        let ways = RELEASES.map(|way| lets_go(self.machine, self.event, number, way));
+        let ways = RELEASES.map(|way| is_released(self.machine, self.event, number, way));
         let mut left = ways.iter().filter(|is_open| **is_open).count();
         if left == 0 {
             return prose;
@@ -383,7 +383,7 @@ impl<'a, A: Handle> Refused<'a, A> {
         let may_commit = self
             .class_of(holder)
             .is_some_and(|class| class.may.has(EventKind::Commit));
-        if lets_go(self.machine, self.event, op.number, Release::Commit) || !may_commit {
+        if is_released(self.machine, self.event, op.number, Release::Commit) || !may_commit {
             return prose;
         }
         match heir(self.machine, holder) {

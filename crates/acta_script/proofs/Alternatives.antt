@@ -13,7 +13,7 @@ use Rattle.acta_script.specs.declared.fault.LineError.{LineError}
 use Rattle.acta_script.specs.declared.fault.LineError.TheVariants.{Fault}
 use Rattle.acta_script.specs.declared.fault.LineFault.{LineFault}
 use Rattle.acta_script.specs.declared.fault.LineFault.TheVariants.{Empty, Word, Arity, Number, Name}
-use Rattle.acta_script.specs.Reading.{◌>>=◌, IsWhy, fault_number, lower, both, event_behind, is_bar, one_more, alternatives_in, parse_alternatives}
+use Rattle.acta_script.specs.Reading.{◌>>=◌, IsWhy, fault_number, lower, both, event_after, is_bar, one_more, alternatives_in, parse_alternatives}
 
 onto-mapped : {X Y : Type 0} (f : X → Y) (x : X) (parts : List (List X)) → map (map f) (onto_first x parts) ≡ onto_first (f x) (map (map f) parts)
 onto-mapped f x [] = refl
@@ -97,22 +97,22 @@ module _ {A R : Type 0} (m : Parts A) (view : R → List (List ℕ)) (parts : Li
   abbrev left : Result (List (Event A)) LineFault
   left = alternatives_in m (map view (drop (i + 1) parts))
 
-  begun : with_left events fault (both one_more (event_behind m (view (get_or parts i d))) left) ≡ all
+  begun : with_left events fault (both one_more (event_after m (view (get_or parts i d))) left) ≡ all
   begun = sym (ap (with_left events fault) (at_drop_more (λ ps. alternatives_in m (map view ps)) parts i d within)) ∙ so_far
 
   -- the result so far with the event of the next part, and the results of the later parts
   pub at-event : (event : Event A) (events_now : List (Event A)) (fault_now : Option LineFault)
-      → event_behind m (view (get_or parts i d)) ≡ Ok event → events_now ≡ events ++ event ∷ [] → fault_now ≡ fault → with_left events_now fault_now left ≡ all
+      → event_after m (view (get_or parts i d)) ≡ Ok event → events_now ≡ events ++ event ∷ [] → fault_now ≡ fault → with_left events_now fault_now left ≡ all
   at-event event events_now fault_now is events_are fault_is =
       (λ j. with_left (events_are j) (fault_is j) left) ∙ sym (next-event events fault event left)
       ∙ ap (λ parsed. with_left events fault (both one_more parsed left)) (sym is) ∙ begun
 
   -- the same with its fault
   pub at-fault : (found : LineFault) (why : LineError) (events_now : List (Event A)) (fault_now : Option LineFault)
-      → IsWhy (event_behind {A = A} m (view (get_or parts i d))) why → why ≡ Fault found → events_now ≡ events → fault_now ≡ Some (option_map_or (lower found) fault found) → with_left events_now fault_now left ≡ all
+      → IsWhy (event_after {A = A} m (view (get_or parts i d))) why → why ≡ Fault found → events_now ≡ events → fault_now ≡ Some (option_map_or (lower found) fault found) → with_left events_now fault_now left ≡ all
   at-fault found why events_now fault_now is why_is events_are fault_is =
       (λ j. with_left (events_are j) (fault_is j) left) ∙ sym (next-fault events fault found left)
-      ∙ ap (λ parsed. with_left events fault (both one_more parsed left)) (sym (subst (IsWhy (event_behind {A = A} m (view (get_or parts i d)))) why_is is)) ∙ begun
+      ∙ ap (λ parsed. with_left events fault (both one_more parsed left)) (sym (subst (IsWhy (event_after {A = A} m (view (get_or parts i d)))) why_is is)) ∙ begun
 
 one-counted : {A : Type 0} (first : Result (Event A) LineFault) (others : Result (List (Event A)) LineFault) (n : ℕ) (events : List (Event A))
     → ((more : List (Event A)) → others ≡ Ok more → length more ≡ n) → both one_more first others ≡ Ok events → length events ≡ suc n
@@ -128,7 +128,7 @@ counted : {A : Type 0} (m : Parts A) (parts : List (List (List ℕ))) (events : 
 counted m [] events is =
     let same : [] ≡ events = cc in
     sym (ap length same)
-counted m (part ∷ parts) events is = one-counted (event_behind m part) (alternatives_in m parts) (length parts) events (counted m parts) is
+counted m (part ∷ parts) events is = one-counted (event_after m part) (alternatives_in m parts) (length parts) events (counted m parts) is
 
 -- the words give at least one alternative, or a fault
 pub some-alternative : {A : Type 0} (m : Parts A) (words : List (List ℕ)) (events : List (Event A)) → parse_alternatives m words ≡ Ok events → 0 < length events

@@ -35,10 +35,10 @@ use Rattle.acta_script.specs.declared.fault.LineFault.{LineFault}
 use Rattle.acta_script.specs.declared.fault.LineFault.TheVariants.{Empty, Word, Arity, Number, Name}
 use Rattle.acta_script.specs.declared.op_kind.OpKind.{OpKind}
 use Rattle.acta_script.specs.declared.op_kind.OpKind.TheVariants as op_kind
-use Rattle.acta_script.specs.Diagnosis.{fault_of_word, is_fault, wrong_word, wrong_count, wrong_in, op_kind_in, operation_parts, wrong_behind, wrong_event, wrong_return, lower_of, wrong_kept, wrong_seat, wrong_after_seat, wrong_seated, wrong_break_of, wrong_break, wrong_command_of, wrong_command}
+use Rattle.acta_script.specs.Diagnosis.{fault_of_word, is_fault, wrong_word, wrong_count, wrong_in, op_kind_in, operation_parts, wrong_after, wrong_event, wrong_return, lower_of, wrong_kept, wrong_seat, wrong_after_seat, wrong_seated, wrong_break_of, wrong_break, wrong_command_of, wrong_command}
 use Rattle.acta_script.specs.Commands.{parse_count, one_word, parse_kind_break, parse_break_kind, break_of_kind, parse_break, parse_command_kind, command_of_kind, parse_command}
 use Rattle.acta_words.specs.Numerals.{read_natural}
-use Rattle.acta_script.specs.Reading.{◌>>=◌, fault_number, parse_txn, parse_integer, parse_class, parse_object, parse_kind, parse_numbers, parse_operations, parse_op_kind, alone, with_integer, operation_of_kind, parse_begin, parse_spawn, parse_split, parse_join, parse_delegate, form_of_kind, parse_form, parse_do, parse_commit, parse_abort, parse_permit, parse_event_kind, event_of_kind, parse_event, both, return_named, parse_return, is_equals, with_return, plain, parse_kept, lower, parse_seat, event_behind, at_seat, parse_seated}
+use Rattle.acta_script.specs.Reading.{◌>>=◌, fault_number, parse_txn, parse_integer, parse_class, parse_object, parse_kind, parse_numbers, parse_operations, parse_op_kind, alone, with_integer, operation_of_kind, parse_begin, parse_spawn, parse_split, parse_join, parse_delegate, form_of_kind, parse_form, parse_do, parse_commit, parse_abort, parse_permit, parse_event_kind, event_of_kind, parse_event, both, return_named, parse_return, is_equals, with_return, plain, parse_kept, lower, parse_seat, event_after, at_seat, parse_seated}
 use Rattle.acta_script.specs.Words.{event_word, op_word}
 
 -- the fault of a diagnosis
@@ -473,24 +473,24 @@ module _ {A : Type 0} (m : Parts A) where
   diagnosed_do e n (t ∷ ob ∷ []) = short m (operation_parts None) e n (t ∷ ob ∷ []) (all_known m (part.Transaction ∷ part.Object ∷ []) (t ∷ ob ∷ []) refl) refl
   diagnosed_do e n (t ∷ ob ∷ op ∷ ws) = diagnosed_operation m e n t ob op (parse_op_kind op) (only_op_kind op) refl ws
 
-  diagnosed_behind : (n : ℕ) (r : Result EventKind LineFault) (words : List (List ℕ)) → diagnosed_fault (wrong_behind m n r words) ≡ result_err (r >>= (λ kind. event_of_kind m kind words))
-  diagnosed_behind n (Err f) words = refl
-  diagnosed_behind n (Ok event_kind.Begin) words = diagnosed_begin m _ (n + 1) words
-  diagnosed_behind n (Ok event_kind.Spawn) words = diagnosed_spawn m _ (n + 1) words
-  diagnosed_behind n (Ok event_kind.Split) words = diagnosed_split m _ (n + 1) words
-  diagnosed_behind n (Ok event_kind.Join) words = diagnosed_join m _ (n + 1) words
-  diagnosed_behind n (Ok event_kind.Delegate) words = diagnosed_delegate m _ (n + 1) words
-  diagnosed_behind n (Ok event_kind.Form) words = diagnosed_form m _ (n + 1) words
-  diagnosed_behind n (Ok event_kind.Operate) words = diagnosed_do _ (n + 1) words
-  diagnosed_behind n (Ok event_kind.Commit) words = diagnosed_commit m _ (n + 1) words
-  diagnosed_behind n (Ok event_kind.Abort) words = diagnosed_abort m _ (n + 1) words
-  diagnosed_behind n (Ok event_kind.Permit) words = diagnosed_permit m _ (n + 1) words
+  diagnosed_after : (n : ℕ) (r : Result EventKind LineFault) (words : List (List ℕ)) → diagnosed_fault (wrong_after m n r words) ≡ result_err (r >>= (λ kind. event_of_kind m kind words))
+  diagnosed_after n (Err f) words = refl
+  diagnosed_after n (Ok event_kind.Begin) words = diagnosed_begin m _ (n + 1) words
+  diagnosed_after n (Ok event_kind.Spawn) words = diagnosed_spawn m _ (n + 1) words
+  diagnosed_after n (Ok event_kind.Split) words = diagnosed_split m _ (n + 1) words
+  diagnosed_after n (Ok event_kind.Join) words = diagnosed_join m _ (n + 1) words
+  diagnosed_after n (Ok event_kind.Delegate) words = diagnosed_delegate m _ (n + 1) words
+  diagnosed_after n (Ok event_kind.Form) words = diagnosed_form m _ (n + 1) words
+  diagnosed_after n (Ok event_kind.Operate) words = diagnosed_do _ (n + 1) words
+  diagnosed_after n (Ok event_kind.Commit) words = diagnosed_commit m _ (n + 1) words
+  diagnosed_after n (Ok event_kind.Abort) words = diagnosed_abort m _ (n + 1) words
+  diagnosed_after n (Ok event_kind.Permit) words = diagnosed_permit m _ (n + 1) words
 
   -- the fault of a diagnosis of words of an event
   pub diagnosed_event : (n : ℕ) (words : List (List ℕ)) → diagnosed_fault (wrong_event m n words) ≡ result_err (parse_event m words)
   unfolding parse_event
   diagnosed_event n [] = refl
-  diagnosed_event n (word ∷ words) = diagnosed_behind n (parse_event_kind word) words
+  diagnosed_event n (word ∷ words) = diagnosed_after n (parse_event_kind word) words
 
   diagnosed_return : (n : ℕ) (words : List (List ℕ)) → diagnosed_fault (wrong_return m n words) ≡ result_err (parse_return words)
   unfolding parse_return
@@ -529,7 +529,7 @@ module _ {A : Type 0} (m : Parts A) (seats : ℕ) where
       exact_plain m (part.Seat seats ∷ []) (Part (part.Seat seats)) 0 (word ∷ []) refl refl
       ∙ number_alone (parse_seat seats word) (only_seat seats word)
 
-  diagnosed_after_seat : (words : List (List ℕ)) → diagnosed_fault (wrong_after_seat m words) ≡ result_err (event_behind m words)
+  diagnosed_after_seat : (words : List (List ℕ)) → diagnosed_fault (wrong_after_seat m words) ≡ result_err (event_after m words)
   diagnosed_after_seat [] = refl
   diagnosed_after_seat (word ∷ words) = diagnosed_event m 1 (word ∷ words)
 
@@ -538,8 +538,8 @@ module _ {A : Type 0} (m : Parts A) (seats : ℕ) where
   unfolding parse_seated
   diagnosed_seated [] = refl
   diagnosed_seated (seat ∷ words) =
-      diagnosed_lower (λ n event. at_seat event n) (wrong_seat m seats seat) (wrong_after_seat m words) (parse_seat seats seat) (event_behind m words) (diagnosed_seat seat) (diagnosed_after_seat words)
-      ∙ turned at_seat (event_behind m words) (parse_seat seats seat) (only_seat seats seat)
+      diagnosed_lower (λ n event. at_seat event n) (wrong_seat m seats seat) (wrong_after_seat m words) (parse_seat seats seat) (event_after m words) (diagnosed_seat seat) (diagnosed_after_seat words)
+      ∙ turned at_seat (event_after m words) (parse_seat seats seat) (only_seat seats seat)
 
 known_event : (a b c d e f g h i j : Bool) → Only {X = EventKind} Word (cond a (Ok event_kind.Begin) (cond b (Ok event_kind.Spawn) (cond c (Ok event_kind.Split) (cond d (Ok event_kind.Join) (cond e (Ok event_kind.Delegate) (cond f (Ok event_kind.Form) (cond g (Ok event_kind.Operate) (cond h (Ok event_kind.Commit) (cond i (Ok event_kind.Abort) (cond j (Ok event_kind.Permit) (Err Word)))))))))))
 known_event a b c d e f g h i j =

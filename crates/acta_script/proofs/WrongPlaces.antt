@@ -21,7 +21,7 @@ use Rattle.acta_script.specs.declared.diagnosis.LinePart.TheVariants as part
 use Rattle.acta_script.specs.declared.diagnosis.WordPlace.TheVariants.{Wrong, Missing}
 use Rattle.acta_script.specs.declared.fault.LineFault.{LineFault}
 use Rattle.acta_script.specs.declared.fault.LineFault.TheVariants.{Empty, Word, Arity, Number, Name}
-use Rattle.acta_script.specs.Diagnosis.{fault_of_word, is_fault, wrong_word, wrong_count, wrong_in, IsWrong, op_kind_in, parts_of, form_of, wrong_behind, wrong_event, wrong_return, lower_of, wrong_kept, wrong_after_seat, wrong_seated, break_parts, wrong_break_of, wrong_break, command_parts, is_break, wrong_command_of, wrong_command}
+use Rattle.acta_script.specs.Diagnosis.{fault_of_word, is_fault, wrong_word, wrong_count, wrong_in, IsWrong, op_kind_in, parts_of, form_of, wrong_after, wrong_event, wrong_return, lower_of, wrong_kept, wrong_after_seat, wrong_seated, break_parts, wrong_break_of, wrong_break, command_parts, is_break, wrong_command_of, wrong_command}
 use Rattle.acta_script.specs.Commands.{parse_break_kind, parse_command_kind}
 use Rattle.acta_script.specs.Reading.{fault_number, parse_event_kind, is_equals}
 use Rattle.acta_script.specs.Words.{break_word, command_word, event_word}
@@ -147,7 +147,7 @@ module _ {A : Type 0} (m : Parts A) (all : List (List ℕ)) where
       subst (λ (f : LineFault). IsWrong m all (record { fault = f; place = Wrong n; expected = Part part })) (sym none)
       (ap (option_and_then (λ word. fault_of_word m part word)) here ∙ is ∙ ap Some none)
 
-  behind_wrong : (n : ℕ) (word : List ℕ) (words : List (List ℕ)) → AreAt n (word ∷ words) all → (r : Result EventKind LineFault) → parse_event_kind word ≡ r → IfSome (wrong_behind m n r words) (IsWrong m all)
+  behind_wrong : (n : ℕ) (word : List ℕ) (words : List (List ℕ)) → AreAt n (word ∷ words) all → (r : Result EventKind LineFault) → parse_event_kind word ≡ r → IfSome (wrong_after m n r words) (IsWrong m all)
   behind_wrong n word words at (Ok kind) is = wrong_there (parts_of kind (op_kind_in words)) (form_of kind (op_kind_in words)) (n + 1) words (next_at n word words all at)
   behind_wrong n word words at (Err fault) is = first_wrong part.Event n word words at fault (no_event_kind word fault is) (ap result_err is)
 

@@ -113,15 +113,15 @@ form_of kind op = EventForm kind
 
 -- the diagnosis of an event whose first word, number n in its line, was read as a kind or has a fault; `words` are the
 -- others
-abbrev pub wrong_behind : {A : Type 0} → Parts A → ℕ → Result EventKind LineFault → List (List ℕ) → Option Diagnostic
-wrong_behind m n (Ok kind) words =
+abbrev pub wrong_after : {A : Type 0} → Parts A → ℕ → Result EventKind LineFault → List (List ℕ) → Option Diagnostic
+wrong_after m n (Ok kind) words =
     wrong_in m (parts_of kind (op_kind_in words)) (form_of kind (op_kind_in words)) (n + 1) words
-wrong_behind m n (Err fault) words = Some (record { fault = fault; place = Wrong n; expected = Part Event })
+wrong_after m n (Err fault) words = Some (record { fault = fault; place = Wrong n; expected = Part Event })
 
 -- the diagnosis of an event's words, of which the first has number n in its line
 abbrev pub wrong_event : {A : Type 0} → Parts A → ℕ → List (List ℕ) → Option Diagnostic
 wrong_event m n [] = Some (record { fault = Empty; place = Missing n; expected = Part Event })
-wrong_event m n (word ∷ words) = wrong_behind m n (parse_event_kind word) words
+wrong_event m n (word ∷ words) = wrong_after m n (parse_event_kind word) words
 
 -- the diagnosis of the words after a `=`, of which the first has number n in its line
 abbrev pub wrong_return : {A : Type 0} → Parts A → ℕ → List (List ℕ) → Option Diagnostic

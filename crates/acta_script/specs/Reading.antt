@@ -307,9 +307,9 @@ parse_seat seats word = do
   if nat_le 1 seat then Ok seat else Err Number
 
 -- the event, from the words after a seat; without words there are too few
-abbrev pub event_behind : {A : Type 0} → Parts A → List (List ℕ) → Result (Event A) LineFault
-event_behind m [] = Err Arity
-event_behind m (word ∷ words) = parse_event m (word ∷ words)
+abbrev pub event_after : {A : Type 0} → Parts A → List (List ℕ) → Result (Event A) LineFault
+event_after m [] = Err Arity
+event_after m (word ∷ words) = parse_event m (word ∷ words)
 
 -- an event at its seat
 abbrev pub at_seat : {A : Type 0} → Event A → ℕ → Seated A
@@ -318,7 +318,7 @@ at_seat event seat = record { seat = seat; event = event }
 -- the seated event of these words: a seat, followed by an event
 unfoldable pub parse_seated : {A : Type 0} → Parts A → ℕ → List (List ℕ) → Result (Seated A) LineFault
 parse_seated m seats [] = Err Empty
-parse_seated m seats (seat ∷ words) = both at_seat (event_behind m words) (parse_seat seats seat)
+parse_seated m seats (seat ∷ words) = both at_seat (event_after m words) (parse_seat seats seat)
 
 -- the seated event of a line, or its lowest fault
 abbrev pub seated_of : {A : Type 0} → Parts A → ℕ → List ℕ → Result (Seated A) LineFault
@@ -335,7 +335,7 @@ one_more event events = event ∷ events
 -- the events of all parts; of several faults the lowest counts
 abbrev pub alternatives_in : {A : Type 0} → Parts A → List (List (List ℕ)) → Result (List (Event A)) LineFault
 alternatives_in m [] = Ok []
-alternatives_in m (part ∷ parts) = both one_more (event_behind m part) (alternatives_in m parts)
+alternatives_in m (part ∷ parts) = both one_more (event_after m part) (alternatives_in m parts)
 
 -- the alternatives of these words: the events between the separators
 abbrev pub parse_alternatives : {A : Type 0} → Parts A → List (List ℕ) → Result (List (Event A)) LineFault

@@ -29,7 +29,7 @@ use Rattle.acta_script.specs.declared.shell_words.ShellKind.TheVariants as kind
 use Rattle.acta_script.specs.Commands.{parse_count}
 use Rattle.acta_script.specs.Diagnosis.{wrong_after_seat, wrong_event}
 use Rattle.acta_script.specs.Laws.{IsInModel}
-use Rattle.acta_script.specs.Reading.{event_behind, parse_event_kind, parse_event, parse_object, parse_txn}
+use Rattle.acta_script.specs.Reading.{event_after, parse_event_kind, parse_event, parse_object, parse_txn}
 use Rattle.acta_script.specs.Words.{can_word, shell_word}
 
 -- all kinds of command
@@ -152,7 +152,7 @@ parse_event_line m words = event_or_wrong (λ event. line.Event event) (parse_ev
 
 -- the question whether the event after the word `can` would be admitted
 abbrev pub parse_can_line : {A : Type 0} → Parts A → List (List ℕ) → Result (ShellLine A) Diagnostic
-parse_can_line m words = event_or_wrong (λ event. line.Can event) (event_behind m words) (wrong_after_seat m words)
+parse_can_line m words = event_or_wrong (λ event. line.Can event) (event_after m words) (wrong_after_seat m words)
 
 -- a command if the first word is that of one, otherwise an event
 abbrev pub parse_command_line : {A : Type 0} → Parts A → Option ShellKind → List ℕ → List (List ℕ) → Result (ShellLine A) Diagnostic

@@ -6,7 +6,7 @@ ghost use Rattle.acta_script.specs.Laws.{IsInModel};
 ghost use Rattle.acta_script.specs.Reading.{IsWhy, is_bar, alternatives_in, parse_alternatives, parse_program_line, program_line_of};
 
 use crate::fault::{LineError, LineFault, lowest};
-use crate::seated::{event_behind, parse_seat};
+use crate::seated::{event_after, parse_seat};
 use acta_table::{Event, Items, Model};
 use acta_words::words_of;
 use std::alloc::{AllocError, Allocator};
@@ -42,7 +42,7 @@ fn alternatives_in<A: Allocator + Copy>(
     let mut events = Vec::with_capacity(alloc, parts.len())?;
     let mut fault = None;
     for part in parts {
-        match event_behind(alloc, model, part) {
+        match event_after(alloc, model, part) {
             Ok(event) => events.push(event)?,
             Err(LineError::Fault(found)) => fault = Some(lowest(found, fault)),
             Err(LineError::Memory) => return Err(LineError::Memory),

@@ -2,7 +2,7 @@
 
 ghost use Rattle.std.specs.Prelude.{◌≡◌, map, Ok, IfOk, IfErr};
 ghost use Rattle.acta_script.specs.Laws.{IsInModel};
-ghost use Rattle.acta_script.specs.Reading.{IsWhy, parse_seat, event_behind, parse_seated, seated_of};
+ghost use Rattle.acta_script.specs.Reading.{IsWhy, parse_seat, event_after, parse_seated, seated_of};
 
 use crate::fault::{LineError, LineFault, lowest};
 use crate::reading::parse_event;
@@ -32,13 +32,13 @@ pub(crate) fn parse_seat(seats: u8, word: &[u8]) -> Result<u8, LineFault>
 }
 
 /// The event, from the words after a seat.
-pub(crate) fn event_behind<A: Allocator + Copy>(
+pub(crate) fn event_after<A: Allocator + Copy>(
     alloc: A,
     model: &Model<A>,
     words: &[&[u8]],
 ) -> Result<Event<A>, LineError>
-    ensures ok { IfOk result (λ event. event_behind model.now (map (λ word. word.now) words.now) ≡ Ok event) }
-    ensures fault { IfErr result (IsWhy (event_behind model.now (map (λ word. word.now) words.now))) }
+    ensures ok { IfOk result (λ event. event_after model.now (map (λ word. word.now) words.now) ≡ Ok event) }
+    ensures fault { IfErr result (IsWhy (event_after model.now (map (λ word. word.now) words.now))) }
     ensures in_model { IfOk result (λ event. IsInModel model.now event) }
 {
     if words.is_empty() {
@@ -63,7 +63,7 @@ fn parse_seated<A: Allocator + Copy>(
         return Err(LineFault::Empty.into());
     };
     let seat = parse_seat(seats, seat);
-    match event_behind(alloc, model, words) {
+    match event_after(alloc, model, words) {
         Ok(event) => Ok(Seated { seat: seat?, event }),
         Err(LineError::Fault(fault)) => Err(lowest(fault, seat.err()).into()),
         Err(LineError::Memory) => Err(LineError::Memory),

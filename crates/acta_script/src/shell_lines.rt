@@ -10,7 +10,7 @@ use crate::fault::{LineError, LineFault};
 use crate::names::parse_object;
 use crate::numbers::{parse_count, parse_txn};
 use crate::reading::{parse_event, parse_event_kind};
-use crate::seated::event_behind;
+use crate::seated::event_after;
 use crate::shell_words::{CAN_WORD, ShellKind};
 use acta_table::{Event, EventKind, Model, ObjId, TxnId};
 use acta_words::words_of;
@@ -329,7 +329,7 @@ fn parse_can_line<A: Allocator + Copy>(
     ensures wrong { IfErr result (IsWhyNot (parse_can_line model.now (map (λ word. word.now) words.now))) }
     ensures in_model { IfOk result (IsShellInModel model.now) }
 {
-    match event_behind(alloc, model, words) {
+    match event_after(alloc, model, words) {
         Ok(event) => Ok(ShellLine::Can(event)),
         Err(LineError::Memory) => Err(ShellFault::Memory),
         Err(LineError::Fault(fault)) => {

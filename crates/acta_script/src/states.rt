@@ -36,7 +36,7 @@ fn push_marked<A: Allocator>(
 }
 
 // Writes the numbers, each after a comma.
-fn push_behind<A: Allocator>(line: &mut Vec<u8, A>, numbers: &[i32]) -> Result<(), AllocError>
+fn push_after<A: Allocator>(line: &mut Vec<u8, A>, numbers: &[i32]) -> Result<(), AllocError>
     ensures { OnOk result (line.new.items ≡ line.old.items ++ flat_map (λ n. 44 ∷ signed_decimal n) numbers.now) }
 {
     for number in numbers {
@@ -57,7 +57,7 @@ pub fn push_elements<A: Allocator>(
     };
     line.push(b' ')?;
     push_marked(line, b'{', first)?;
-    push_behind(line, others)?;
+    push_after(line, others)?;
     line.push(b'}')?;
     Ok(())
 }

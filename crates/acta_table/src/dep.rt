@@ -35,6 +35,11 @@ pub enum Dep {
     Wcd,
 }
 
+/// The short names of the kinds, by code.
+pub const DEP_WORDS: [&str; 12] = [
+    "CD", "SCD", "AD", "WD", "TD", "ED", "CMD", "BD", "SD", "BCD", "BAD", "WCD",
+];
+
 impl Dep {
     /// All kinds, by code.
     pub const ALL: [Dep; 12] = [
@@ -76,20 +81,7 @@ impl Dep {
     pub fn word(self) -> &'static str
         ensures { result.now ≡ word_of self }
     {
-        match self {
-            Dep::Cd => "CD",
-            Dep::Scd => "SCD",
-            Dep::Ad => "AD",
-            Dep::Wd => "WD",
-            Dep::Td => "TD",
-            Dep::Ed => "ED",
-            Dep::Cmd => "CMD",
-            Dep::Bd => "BD",
-            Dep::Sd => "SD",
-            Dep::Bcd => "BCD",
-            Dep::Bad => "BAD",
-            Dep::Wcd => "WCD",
-        }
+        DEP_WORDS[self.code() as usize]
     }
 
     /// Whether the kind limits when the dependent transaction may begin.

@@ -17,7 +17,7 @@ mod sentences;
 mod start_edges;
 
 pub use answer::{Answer, Fate, Refusal, Rule, Status, lesser, smallest_of};
-pub use dep::{Dep, DepKinds, Edge, EdgeNo, Missing, Owed};
+pub use dep::{DEP_WORDS, Dep, DepKinds, Edge, EdgeNo, Missing, Owed};
 pub use event::{ClassId, Event, EventKind, Kept, ObjId, Op, OpNo, Ret, TxnId};
 pub use items::{Items, lengthen};
 pub use kinds::Kinds;

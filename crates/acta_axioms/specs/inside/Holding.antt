@@ -19,18 +19,18 @@ abbrev pub ended_so : Fate → HeldOp → HeldOp
 ended_so fate x = record x { fate = fate }
 
 -- operation n, in progress, after an event, given the heir of the transaction that commits by the event
-abbrev pub held_behind : {A : Type 0} → Option TxnId → Event A → ℕ → HeldOp → HeldOp
-held_behind heir (Split s u class ops) n x = if (s.0 == x.holder.0) && is_named ops n then in_hand u x else x
-held_behind heir (Join s u) n x = if s.0 == x.holder.0 then in_hand u x else x
-held_behind heir (Delegate s u ops) n x = if (s.0 == x.holder.0) && is_named ops n then in_hand u x else x
-held_behind heir (Commit s) n x =
+abbrev pub held_after : {A : Type 0} → Option TxnId → Event A → ℕ → HeldOp → HeldOp
+held_after heir (Split s u class ops) n x = if (s.0 == x.holder.0) && is_named ops n then in_hand u x else x
+held_after heir (Join s u) n x = if s.0 == x.holder.0 then in_hand u x else x
+held_after heir (Delegate s u ops) n x = if (s.0 == x.holder.0) && is_named ops n then in_hand u x else x
+held_after heir (Commit s) n x =
     if s.0 == x.holder.0 then option_map_or (λ u. in_hand u x) heir (ended_so Committed x) else x
-held_behind heir (Abort s) n x = if s.0 == x.holder.0 then ended_so Aborted x else x
-held_behind heir _ n x = x
+held_after heir (Abort s) n x = if s.0 == x.holder.0 then ended_so Aborted x else x
+held_after heir _ n x = x
 
 -- operation n after an event; a committed or aborted operation does not change
 abbrev pub brought : {A : Type 0} → Option TxnId → Event A → ℕ → HeldOp → HeldOp
-brought heir e n x = if is_open x.fate then held_behind heir e n x else x
+brought heir e n x = if is_open x.fate then held_after heir e n x else x
 
 -- the operations, of which the first has the number n, after an event
 abbrev pub brought_from : {A : Type 0} → Option TxnId → Event A → ℕ → List HeldOp → List HeldOp

@@ -36,9 +36,9 @@ permits_left (Abort t) p = without_permits p t.0
 permits_left _ p = p
 
 -- the permits after an event: a permit is added, unless it is late
-abbrev pub permits_behind : {A : Type 0} → Bool → Event A → Permitted → Permitted
-permits_behind late (Permit t u ob) p = if late then p else with_permit p t.0 u.0 ob.0
-permits_behind late e p = permits_left e p
+abbrev pub permits_after : {A : Type 0} → Bool → Event A → Permitted → Permitted
+permits_after late (Permit t u ob) p = if late then p else with_permit p t.0 u.0 ob.0
+permits_after late e p = permits_left e p
 
 -- whether s has permitted t to work on the object, and neither has ended
 unfoldable pub is_left : {A : Type 0} → List (Kept A) → ℕ → ℕ → ℕ → Bool

@@ -35,6 +35,6 @@ pub record AreFronts {A : Type 0} (m : Parts A) (history : List (Kept A)) (machi
   pub each : All (IsFront m history) machines
 
 -- the machine is at the place, and the checkpoints have kept prefixes of the history
-pub record IsBehind {A : Type 0} (machine : State A) (history : List (Kept A)) (at : ℕ) (checkpoints : List (State A)) : Type 0 where
+pub record IsCurrent {A : Type 0} (machine : State A) (history : List (Kept A)) (at : ℕ) (checkpoints : List (State A)) : Type 0 where
   pub stands : IsInside machine history at
   pub fronts : AreFronts machine.model history checkpoints

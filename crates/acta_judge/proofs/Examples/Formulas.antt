@@ -144,16 +144,16 @@ unfolding verdict all_faults owed breaches bad_number bad_class bad_object bad_o
 td_breaks_first = refl
 
 -- 4 joins another, which is neither a commit nor an abort, and commits after it
-td_breaks_behind_the_join_of_4 : verdict free (upon Td (begin 3 0 ∷ begin 4 0 ∷ begin 5 0 ∷ join 4 5 ∷ commit 4 ∷ []))
+td_breaks_after_the_join_of_4 : verdict free (upon Td (begin 3 0 ∷ begin 4 0 ∷ begin 5 0 ∷ join 4 5 ∷ commit 4 ∷ []))
     ≡ found (fault EndedOnce 7 4 ∷ fault (Dependency Td) 7 2 ∷ [])
 unfolding verdict all_faults owed breaches bad_number bad_class bad_object bad_operation same_transaction is_false place_broken axiom_number
-td_breaks_behind_the_join_of_4 = refl
+td_breaks_after_the_join_of_4 = refl
 
 -- 3 joins another, which decides nothing
-td_breaks_behind_a_join : verdict free (upon Td (begin 3 0 ∷ begin 4 0 ∷ begin 5 0 ∷ join 3 5 ∷ commit 4 ∷ []))
+td_breaks_after_a_join : verdict free (upon Td (begin 3 0 ∷ begin 4 0 ∷ begin 5 0 ∷ join 3 5 ∷ commit 4 ∷ []))
     ≡ found (fault (Dependency Td) 7 2 ∷ [])
 unfolding verdict all_faults owed breaches bad_number bad_class bad_object bad_operation same_transaction is_false place_broken
-td_breaks_behind_a_join = refl
+td_breaks_after_a_join = refl
 
 -- 3 has aborted where 4 commits
 td_holds : verdict free (upon Td (begin 3 0 ∷ begin 4 0 ∷ abort 3 ∷ commit 4 ∷ [])) ≡ faultless
@@ -258,10 +258,10 @@ unfolding verdict all_faults owed breaches bad_number bad_class bad_object bad_o
 sd_breaks = refl
 
 -- 3 joins another, which decides nothing
-sd_breaks_behind_a_join : verdict free (upon Sd (begin 3 0 ∷ begin 5 0 ∷ join 3 5 ∷ begin 4 0 ∷ []))
+sd_breaks_after_a_join : verdict free (upon Sd (begin 3 0 ∷ begin 5 0 ∷ join 3 5 ∷ begin 4 0 ∷ []))
     ≡ found (fault (Dependency Sd) 6 2 ∷ [])
 unfolding verdict all_faults owed breaches bad_number bad_class bad_object bad_operation same_transaction is_false place_broken
-sd_breaks_behind_a_join = refl
+sd_breaks_after_a_join = refl
 
 -- 3 has committed
 sd_holds : verdict free (upon Sd (begin 3 0 ∷ commit 3 ∷ begin 4 0 ∷ [])) ≡ faultless
@@ -279,10 +279,10 @@ unfolding verdict all_faults owed breaches bad_number bad_class bad_object bad_o
 bcd_breaks = refl
 
 -- 4 begins after an abort of 3
-bcd_breaks_behind_an_abort : verdict free (upon Bcd (begin 3 0 ∷ abort 3 ∷ begin 4 0 ∷ []))
+bcd_breaks_after_an_abort : verdict free (upon Bcd (begin 3 0 ∷ abort 3 ∷ begin 4 0 ∷ []))
     ≡ found (fault (Dependency Bcd) 5 2 ∷ [])
 unfolding verdict all_faults owed breaches bad_number bad_class bad_object bad_operation same_transaction is_false place_broken
-bcd_breaks_behind_an_abort = refl
+bcd_breaks_after_an_abort = refl
 
 -- 3 has committed
 bcd_holds : verdict free (upon Bcd (begin 3 0 ∷ commit 3 ∷ begin 4 0 ∷ [])) ≡ faultless
@@ -295,10 +295,10 @@ unfolding verdict all_faults owed breaches bad_number bad_class bad_object bad_o
 bad_breaks = refl
 
 -- 4 begins after a commit of 3
-bad_breaks_behind_a_commit : verdict free (upon Bad (begin 3 0 ∷ commit 3 ∷ begin 4 0 ∷ []))
+bad_breaks_after_a_commit : verdict free (upon Bad (begin 3 0 ∷ commit 3 ∷ begin 4 0 ∷ []))
     ≡ found (fault (Dependency Bad) 5 2 ∷ [])
 unfolding verdict all_faults owed breaches bad_number bad_class bad_object bad_operation same_transaction is_false place_broken
-bad_breaks_behind_a_commit = refl
+bad_breaks_after_a_commit = refl
 
 -- 3 has aborted
 bad_holds : verdict free (upon Bad (begin 3 0 ∷ abort 3 ∷ begin 4 0 ∷ [])) ≡ faultless

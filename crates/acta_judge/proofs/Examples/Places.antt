@@ -74,10 +74,10 @@ unfolding verdict all_faults owed breaches bad_number bad_class bad_object bad_o
 each_ends_once = refl
 
 -- operates in progress: a committed transaction reads
-operated_behind_its_end : verdict model (begin 7 0 ∷ commit 7 ∷ operate 7 0 Read (Value (pos 0)) ∷ [])
+operated_after_its_end : verdict model (begin 7 0 ∷ commit 7 ∷ operate 7 0 Read (Value (pos 0)) ∷ [])
     ≡ found (fault OperatesInProgress 3 7 ∷ [])
 unfolding verdict all_faults owed breaches bad_number bad_class bad_object bad_operation same_transaction
-operated_behind_its_end = refl
+operated_after_its_end = refl
 
 -- a transaction reads that begins later
 operated_before_its_start : verdict model (begin 6 0 ∷ operate 7 0 Read (Value (pos 0)) ∷ begin 7 0 ∷ [])
@@ -378,21 +378,21 @@ unfolding verdict all_faults owed breaches bad_number bad_class bad_object bad_o
 left_without_heir = refl
 
 -- formed in time: an edge of a begin kind of a begun transaction
-formed_behind_the_start : verdict model (begin 6 3 ∷ begin 7 3 ∷ form Bd 7 6 ∷ [])
+formed_after_the_start : verdict model (begin 6 3 ∷ begin 7 3 ∷ form Bd 7 6 ∷ [])
     ≡ found (fault FormedInTime 3 7 ∷ [])
 unfolding verdict all_faults owed breaches bad_number bad_class bad_object bad_operation same_transaction is_false
-formed_behind_the_start = refl
+formed_after_the_start = refl
 
 -- an edge of another kind on an ended transaction
-formed_behind_an_end : verdict model (begin 6 3 ∷ abort 6 ∷ form Cd 7 6 ∷ []) ≡ found (fault FormedInTime 3 6 ∷ [])
+formed_after_an_end : verdict model (begin 6 3 ∷ abort 6 ∷ form Cd 7 6 ∷ []) ≡ found (fault FormedInTime 3 6 ∷ [])
 unfolding verdict all_faults owed breaches bad_number bad_class bad_object bad_operation same_transaction is_false
-formed_behind_an_end = refl
+formed_after_an_end = refl
 
 -- and if both have ended, the fault has the smaller number
-formed_behind_both_ends : verdict model (begin 6 3 ∷ begin 7 3 ∷ abort 7 ∷ abort 6 ∷ form Cd 7 6 ∷ [])
+formed_after_both_ends : verdict model (begin 6 3 ∷ begin 7 3 ∷ abort 7 ∷ abort 6 ∷ form Cd 7 6 ∷ [])
     ≡ found (fault FormedInTime 5 6 ∷ [])
 unfolding verdict all_faults owed breaches bad_number bad_class bad_object bad_operation same_transaction is_false
-formed_behind_both_ends = refl
+formed_after_both_ends = refl
 
 -- an edge of a begin kind on an ended transaction, and an edge of another kind of a begun one
 formed_in_time : verdict model (begin 6 3 ∷ commit 6 ∷ form Bd 7 6 ∷ begin 7 3 ∷ form Cd 7 8 ∷ []) ≡ faultless

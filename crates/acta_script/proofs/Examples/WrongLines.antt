@@ -54,8 +54,8 @@ first_number : event (codes "begin x nosuch") ≡ found Number (Wrong 1) (Part T
 first_number = refl
 
 -- a wrong number has the lower fault, though a wrong name is before it
-list_behind_class : event (codes "split 1 2 nosuch 3,,4") ≡ found Number (Wrong 4) (Part Operations)
-list_behind_class = refl
+list_after_class : event (codes "split 1 2 nosuch 3,,4") ≡ found Number (Wrong 4) (Part Operations)
+list_after_class = refl
 
 no_class : event (codes "begin 1 x") ≡ found Name (Wrong 2) (Part Class)
 no_class = refl

@@ -97,12 +97,12 @@ returns-in-EdgesFull-clause-reported g c = λ same.
 
 pub returns-in-PartialDelegation-clause-hope : goal.returns-in-PartialDelegation-clause-hope
 returns-in-PartialDelegation-clause-hope g c =
-    of-left-out c.args.machine.now c.args.event.now c.in-PartialDelegation.op c.once_let_go.result c.once_let_go.ensures
+    of-left-out c.args.machine.now c.args.event.now c.in-PartialDelegation.op c.once_released.result c.once_released.ensures
     (subst (IsWhy c.args.machine.now c.args.event.now) c.in-PartialDelegation.is c.requires)
 
 pub returns-in-PartialDelegation-clause-reported : goal.returns-in-PartialDelegation-clause-reported
 returns-in-PartialDelegation-clause-reported g c = λ same.
-    absurd (reported-left-out c.args.machine.now c.args.event.now c.in-PartialDelegation.op c.once_let_go.result c.once_let_go.ensures
+    absurd (reported-left-out c.args.machine.now c.args.event.now c.in-PartialDelegation.op c.once_released.result c.once_released.ensures
     (subst (IsWhy c.args.machine.now c.args.event.now) c.in-PartialDelegation.is c.requires) same)
 
 pub returns-in-Conflict-clause-hope : goal.returns-in-Conflict-clause-hope

@@ -3,7 +3,7 @@ use Rattle.acta_sets.specs.Operations.{is_among}
 use Rattle.acta_table.specs.Ancestors.{ancestors_from}
 use Rattle.acta_machine.proofs.FamilyTies.{kept-many}
 use Rattle.acta_hope.proofs.Growth.{summary_in}
-use Rattle.acta_hope.proofs.LettingGo.{line-here, line-on, not-eqb}
+use Rattle.acta_hope.proofs.Releasing.{line-here, line-on, not-eqb}
 use Rattle.acta_hope.proofs.releases.is_ancestor.Goals as goal
 
 pub loop-init : goal.loop-init

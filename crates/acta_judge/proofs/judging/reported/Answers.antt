@@ -1,7 +1,7 @@
 use Rattle.std.proofs.Common.{◌++◌, length, flat_map, ap, ◌∙◌}
 use Rattle.acta_axioms.specs.declared.fault.Axiom.TheVariants.{Clash}
 use Rattle.acta_axioms.specs.Faults.{faults_at, faults_of}
-use Rattle.acta_axioms.specs.History.{places_behind}
+use Rattle.acta_axioms.specs.History.{places_after}
 use Rattle.acta_axioms.specs.Legal.{owed}
 use Rattle.acta_judge.specs.Broken.{faults_in_edges}
 use Rattle.acta_judge.specs.Order.{in_order}
@@ -20,7 +20,7 @@ returns-clause-verdict g c =
     let walked = c.in_ok-places.ensures.walked in
     let front = ap (λ w. w.front) walked ∙ ap (λ f. f ++ h) begun in
     let model = ap (λ w. w.model) walked in
-    let places = ap together c.as_slice-3.ensures.value ∙ c.in_ok-places.ensures.reported ∙ ap (λ f. flat_map (faults_at m) (places_behind f h)) begun in
+    let places = ap together c.as_slice-3.ensures.value ∙ c.in_ok-places.ensures.reported ∙ ap (λ f. flat_map (faults_at m) (places_after f h)) begun in
     let edges = ap (flat_map (λ part. part.faults)) c.as_slice-4.ensures.value ∙ c.in_ok-edges.ensures.faults ∙ (λ i. faults_in_edges (model i) (front i)) in
     let debts = c.in_ok-owed.ensures ∙ ap (flat_map (λ part. part.owed)) c.as_slice.ensures.value ∙ c.in_ok-edges.ensures.owed ∙ (λ i. owed (model i) (front i)) in
     let place = ap (λ xs. length xs) (c.front.ensures.front ∙ front) in

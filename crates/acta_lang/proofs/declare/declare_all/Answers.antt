@@ -11,7 +11,7 @@ use Rattle.acta_lang.proofs.Diagnosing.{at_line, declares-next, mapped-none, map
 use Rattle.acta_lang.proofs.NoCodes.{no_test}
 use Rattle.acta_lang.proofs.Noting.{noted-next}
 use Rattle.acta_lang.proofs.Sound.{faultless_at, keeps, current_is_new}
-use Rattle.acta_lang.proofs.Turns.{meaning_from, behind_is_from, turn, ends, stops, goes_by}
+use Rattle.acta_lang.proofs.Turns.{meaning_from, after_is_from, turn, ends, stops, goes_by}
 use Rattle.acta_lang.proofs.Whole.{is_whole, line-next}
 use Rattle.acta_lang.proofs.declare.declare_all.Goals as goal
 
@@ -32,7 +32,7 @@ returns-in-Some-2-clause-fault g c =
     let code = mapped-some reported (diagnosis d x (n + 1) line) (code_at d (length rest == 0) line) c.in-Some-2.found (ap (option_map reported) (sym c.in-Some-2.is) ∙ reported_so) in
     let fault = ap fault_of code.2 in
     let means =
-    behind_is_from [] (lines_of c.args.text.now)
+    after_is_from [] (lines_of c.args.text.now)
     ∙ stops (n + 1) _ code.0 _ _ code.1
     (turn (n + 1) d line (lines_to_come c.loop-line.lines) rest _ c.in-Some.ensures.steps c.loop-line.invariant.means) in
     let placed = at_line c.args.text.now n d x line rest code.0 c.loop-line.invariant.declares c.loop-line.invariant.notes (one_name c.loop-line.draft.current) (c.loop-line.invariant.left ∙ c.in-Some.ensures.steps) in (
@@ -76,5 +76,5 @@ loop-line-preserved g c =
 
 pub returns-clause-ok : goal.returns-clause-ok
 returns-clause-ok g c =
-    behind_is_from [] (lines_of c.args.text.now)
+    after_is_from [] (lines_of c.args.text.now)
     ∙ ends (c.loop-line.number + 1) (abstraction c.loop-line.draft) (lines_to_come c.loop-line.lines) _ c.in_default.ensures.steps.0 c.loop-line.invariant.means

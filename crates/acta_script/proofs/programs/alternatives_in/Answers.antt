@@ -9,9 +9,9 @@ pub loop-part-preserved : goal.loop-part-preserved
 loop-part-preserved g c =
     let m = c.args.model.now in
     let loop = c.loop-part in
-    let events = c.match-event_behind.events.items in
-    let fault = c.match-event_behind.fault in
-    elim c.match-event_behind.branch [
+    let events = c.match-event_after.events.items in
+    let fault = c.match-event_after.fault in
+    elim c.match-event_after.branch [
       | in-Ok+in_ok-push-in-Ok w ↦
           let events_are : events ≡ loop.events.items ++ w.in-Ok.event ∷ [] = ap (λ v. v.items) w.events-is ∙ w.in_ok-push-in-Ok.ensures.items in
           record {

@@ -22,10 +22,10 @@ loop-i-preserved g c =
     let within : i < length h = omega (arith, c.loop-i-test.true, end, long) in
     let here : k ≡ get_or h i d = ap (λ ks. get_or ks i d) front in
     let longer : take i h ++ k ∷ [] ≡ take (i + 1) h = ap (λ q. take i h ++ q ∷ []) here ∙ sym (take_more h i d within) in
-    let left : c.heir_behind-heir.result ≡ heir_before c.self.inside.model.now i c.as_slice.result.now k.event = c.heir_behind-heir.ensures in
+    let left : c.heir_after-heir.result ≡ heir_before c.self.inside.model.now i c.as_slice.result.now k.event = c.heir_after-heir.ensures in
     let heir = left ∙ (λ x. heir_before (ap (λ w. w.model) c.self.view_is x) i (c.as_slice.ensures.value x) k.event)
     ∙ heir-before m h c.self.inside.lines.items i k.event (omega (arith, within)) (λ t. c.self.invariant.lines_are t ∙ ap (λ w. txn_record w.front t) c.self.view_is) in
-    let held : c.followed_on-held.result ≡ followed_on c.heir_behind-heir.result k.event c.args.op.0 c.loop-i.number c.loop-i.held = c.followed_on-held.ensures in
+    let held : c.followed_on-held.result ≡ followed_on c.heir_after-heir.result k.event c.args.op.0 c.loop-i.number c.loop-i.held = c.followed_on-held.ensures in
     let number : c.next_number-number.result ≡ next_number k.event c.loop-i.number = c.next_number-number.ensures in
     record {
       held = ap (option_map standing_in) (held ∙ (λ x. followed_on (heir x) k.event c.args.op.0 (inv.number x) c.loop-i.held))

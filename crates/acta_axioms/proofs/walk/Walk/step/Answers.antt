@@ -6,7 +6,7 @@ use Rattle.acta_table.specs.Edges.{formed}
 use Rattle.acta_table.specs.Events.{named}
 use Rattle.acta_axioms.specs.Edges.{formed_by}
 use Rattle.acta_axioms.specs.inside.TxnRecords.{unbegun, begun_in, ended_in, is_late, further, heir_in}
-use Rattle.acta_axioms.specs.inside.Walking.{permits_behind}
+use Rattle.acta_axioms.specs.inside.Walking.{permits_after}
 use Rattle.acta_sets.specs.Permits.{permitted}
 use Rattle.std.proofs.lemmas.List.{length-take}
 use Rattle.acta_axioms.proofs.Bringing.{few-operations}
@@ -43,7 +43,7 @@ invariant_of-self-2 g c =
     (c.in_ok-go_on.ensures.formed ∙ ap (formed es) (c.as_slice-3.ensures.value ∙ due))
     (c.heir_of.ensures ∙ ap (λ rows. heir_in m rows k.event) c.as_slice.ensures.value)
     c.in_ok-go_on.ensures.brought
-    (c.in_ok-go_on.ensures.permitted ∙ ap (λ b. permits_behind b k.event ps) (c.is_late.ensures ∙ ap (λ rows. is_late (ended_in rows) k.event) c.as_slice-2.ensures.value))
+    (c.in_ok-go_on.ensures.permitted ∙ ap (λ b. permits_after b k.event ps) (c.is_late.ensures ∙ ap (λ rows. is_late (ended_in rows) k.event) c.as_slice-2.ensures.value))
     (ap length back ∙ long)
     (λ t. ap (λ rows. get_or rows t unbegun) back ∙ c.note.ensures.further t ∙ ap (λ rows. further (n + 1) (begun_in rows) k.event t (get_or rows t unbegun)) lent)
 

@@ -5,8 +5,8 @@ use Rattle.acta_debug.specs.Sessions.{Session, moved_to}
 use Rattle.acta_debug.specs.inside.Shown.{AreFronts}
 use Rattle.acta_debug.proofs.Replaying.{with_kept}
 use Rattle.acta_debug.proofs.Standing.{inside-at, moved-at}
-use Rattle.acta_debug.proofs.debugger.Debugger.stand_behind.Given.{Over}
-use Rattle.acta_debug.proofs.debugger.Debugger.stand_behind.Goals as goal
+use Rattle.acta_debug.proofs.debugger.Debugger.move_machine.Given.{Over}
+use Rattle.acta_debug.proofs.debugger.Debugger.move_machine.Goals as goal
 
 -- the new machine has kept the items before the place
 stands : (g : Over) (c : goal.After-self-1 g) → c.replace.new.dest ≡ with_kept c.self.inside.machine.model (take c.args.n c.self.inside.history.items)

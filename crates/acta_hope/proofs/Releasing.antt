@@ -31,8 +31,8 @@ use Rattle.acta_machine.specs.Rules.{lowest_broken, txn_may}
 use Rattle.acta_machine.specs.Summary.{Summary, terminated, permit_given, linked, given, inherited, fated, counted}
 use Rattle.acta_machine.specs.Table.{State, after, kept_as, moved_on, operations_in, refusal_in}
 use Rattle.acta_machine.proofs.Histories.{summary_more}
-use Rattle.acta_hope.specs.Hopes.{stands_in, stands_in_way}
-use Rattle.acta_hope.specs.Releases.{is_exempt, frees_at_commit, may_release, may_let_go, IsRelease, LetsGo}
+use Rattle.acta_hope.specs.Hopes.{is_blocking, is_blocking_in}
+use Rattle.acta_hope.specs.Releases.{is_exempt, frees_at_commit, may_release, may_be_released, IsRelease, IsReleased}
 use Rattle.acta_hope.specs.declared.releases.Release.{Release}
 use Rattle.acta_hope.specs.declared.releases.Release.TheVariants.{Commit, Abort, Delegate, Join, Permit}
 use Rattle.acta_hope.proofs.Counting.{right-true}
@@ -235,10 +235,10 @@ after-admitted : {A : Type 0} (P : State A → Type 0) (state : State A) (r : Ev
 unfolding after
 after-admitted P state r none p = subst (λ (o : Option Refusal). P (moved_on state r o)) (sym none) p
 
-pub let-go : {A : Type 0} (state : State A) (e : Event A) (n : OpNo) (release : Release) → may_let_go state e n release ≡ true → LetsGo state e n release
+pub let-go : {A : Type 0} (state : State A) (e : Event A) (n : OpNo) (release : Release) → may_be_released state e n release ≡ true → IsReleased state e n release
 let-go {A} state (event.Operate t ob op) n release may = λ u i r acts at is none.
-    after-admitted (λ later. stands_in_way later (event.Operate t ob op) n ≡ false) state r none
-    (ap (λ l. stands_in state.model l (event.Operate t ob op) n.0) (summary_more state.model state.kept (kept_as state r))
+    after-admitted (λ later. is_blocking_in later (event.Operate t ob op) n ≡ false) state r none
+    (ap (λ l. is_blocking state.model l (event.Operate t ob op) n.0) (summary_more state.model state.kept (kept_as state r))
     ∙ released state.model (summary_in state) t ob op n i at release r
     (sym (ap (λ o. option_map_or (λ j. may_release state.model (summary_in state) t.0 j.holder.0 release) o false) at) ∙ may)
     (subst (λ (v : TxnId). IsRelease v n i release r) (sym (ap (λ k. record { 0 = k }) (same_Some t.0 u.0 acts))) is))

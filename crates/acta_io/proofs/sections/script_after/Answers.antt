@@ -3,10 +3,10 @@ use Rattle.std.specs.Prelude.{option_map}
 use Rattle.acta_words.specs.Text.{lines_of}
 use Rattle.acta_io.specs.inside.Sections.{parsed_of}
 use Rattle.acta_io.proofs.DebugScripts.{faulty_events, found_commands, has_number}
-use Rattle.acta_io.proofs.sections.script_behind.Goals as goal
+use Rattle.acta_io.proofs.sections.script_after.Goals as goal
 
-pub commands_behind-requires : goal.commands_behind-requires
-commands_behind-requires g c =
+pub commands_after-requires : goal.commands_after-requires
+commands_after-requires g c =
     let one = has_number c.args.model.now c.args.input.now c.args.events.items c.args.stop c.requires in omega (arith, one)
 
 pub returns-in-Some-clause-events : goal.returns-in-Some-clause-events

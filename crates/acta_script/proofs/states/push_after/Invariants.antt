@@ -1,6 +1,6 @@
 use Rattle.std.proofs.Common.{◌≡◌, ◌∷◌, ◌++◌, flat_map, drop}
 use Rattle.std.specs.Fmt.{signed_decimal}
-use Rattle.acta_script.proofs.states.push_behind.Given as goal
+use Rattle.acta_script.proofs.states.push_after.Given as goal
 
 -- the bytes so far, followed by the remaining numbers, are the final bytes
 abbrev pub invariant-loop-number : goal.invariant-loop-number

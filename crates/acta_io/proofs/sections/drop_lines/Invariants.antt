@@ -1,7 +1,7 @@
 use Rattle.std.proofs.Common.{◌≡◌, ◌≤◌, ◌+◌, length, drop}
 use Rattle.acta_words.specs.Text.{lines_of}
 use Rattle.acta_words.specs.inside.LinesToCome.{lines_to_come}
-use Rattle.acta_io.proofs.sections.lines_behind.Given as goal
+use Rattle.acta_io.proofs.sections.drop_lines.Given as goal
 
 -- as many lines are still to be passed over as are left to count
 abbrev pub invariant-loop-left : goal.invariant-loop-left

@@ -4,7 +4,7 @@ use Rattle.acta_machine.specs.Table.{after_all}
 use Rattle.acta_debug.specs.Histories.{IsHistory, events_in}
 use Rattle.acta_debug.specs.Sessions.{Session}
 use Rattle.acta_debug.proofs.Fronts.{front-goes}
-use Rattle.acta_debug.proofs.debugger.Debugger.machine_behind.Goals as goal
+use Rattle.acta_debug.proofs.debugger.Debugger.machine_at_place.Goals as goal
 
 pub returns-in-Ok-clause-kept : goal.returns-in-Ok-clause-kept
 returns-in-Ok-clause-kept g c =
