@@ -12,7 +12,8 @@ use Rattle.acta_objects.specs.Objects.{is_register_op, is_counter_op, is_set_op,
 use Rattle.acta_objects.specs.Conflicts.{register_conflicts, counter_conflicts, set_conflicts, conflicts, conflict_on}
 use Rattle.acta_sets.specs.Operations.{ops_conflict}
 use Rattle.acta_sets.proofs.Laws.{conflicts_equivalent}
-use Rattle.acta_axioms.specs.Values.{do_conflict, is_well_formed}
+use Rattle.acta_values.specs.Conflicts.{is_well_formed}
+use Rattle.acta_axioms.specs.Values.{do_conflict}
 
 of_registers : (p q : Op) → (is_register_op p && (is_register_op q && register_conflicts p q)) ≡ register_conflicts p q
 of_registers Read Read = refl

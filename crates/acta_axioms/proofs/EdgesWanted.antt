@@ -8,7 +8,7 @@ use Rattle.acta_table.specs.declared.event.Op.{Op}
 use Rattle.acta_table.specs.declared.event.Kept.{Kept}
 use Rattle.acta_table.specs.declared.model.Parts.{Parts}
 use Rattle.acta_axioms.specs.Edges.{formed_by}
-use Rattle.acta_axioms.specs.inside.Against.{edges_wanted}
+use Rattle.acta_axioms.specs.inside.Wanted.{edges_wanted}
 
 pub wanted-formed : {A : Type 0} (m : Parts A) (before : List (Kept A)) (e : Event A) → ((t : TxnId) (object : ObjId) (op : Op) → e ≡ Operate t object op → ⊥) → edges_wanted m.classes e ≡ formed_by m before e
 wanted-formed m before (Begin t class) other = refl

@@ -15,7 +15,6 @@ mod TxnRecords
 mod Bringing
 mod Following
 pub mod Searches
-pub mod Unconflicted
 mod EdgesWanted
 pub mod Permitting
 mod Taken

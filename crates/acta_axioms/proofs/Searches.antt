@@ -41,8 +41,8 @@ use Rattle.acta_axioms.specs.declared.seeking.Sought.TheVariants.{Others, Agains
 use Rattle.acta_axioms.specs.History.{has_class, class_of, ancestors}
 use Rattle.acta_axioms.specs.Operations.{Operation, Standing, standing, operations, is_exempt, is_of_others, access_set, conflict_set}
 use Rattle.acta_axioms.specs.Permits.{is_permitted}
-use Rattle.acta_axioms.specs.inside.Against.{is_against_but}
-use Rattle.acta_axioms.specs.Values.{do_conflict, conflicting, value, is_well_formed}
+use Rattle.acta_values.specs.Conflicts.{is_against_but, is_well_formed}
+use Rattle.acta_axioms.specs.Values.{do_conflict, conflicting, value}
 use Rattle.acta_axioms.specs.Edges.{holders_against, formed_by}
 use Rattle.acta_axioms.specs.Walks.{held_op, held_ops, op_numbers}
 use Rattle.acta_values.specs.KeptValues.{kinds_of}

@@ -30,7 +30,8 @@ use Rattle.acta_objects.specs.Objects.{suits}
 use Rattle.acta_objects.specs.WellFormed.{bad_operation}
 use Rattle.acta_axioms.specs.History.{has_begun, has_ended, is_in_progress, has_class, class_of}
 use Rattle.acta_axioms.specs.Operations.{Operation, number_after}
-use Rattle.acta_axioms.specs.Values.{is_well_formed, return_due, conflicting}
+use Rattle.acta_values.specs.Conflicts.{is_well_formed}
+use Rattle.acta_axioms.specs.Values.{return_due, conflicting}
 use Rattle.acta_axioms.specs.Faults.{when, first_named, ill_formed, lacks_start, lacks_kind, cannot_form, not_allowed, in_conflict, is_same_ret, is_due, wrong_return}
 use Rattle.acta_axioms.proofs.Growth.{class_in}
 use Rattle.acta_axioms.specs.Serial.{is_strict_class, is_strict}

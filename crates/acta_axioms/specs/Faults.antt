@@ -24,7 +24,8 @@ use Rattle.acta_axioms.specs.declared.fault.Axiom.{Axiom}
 use Rattle.acta_axioms.specs.declared.fault.Axiom.TheVariants.{BegunOnce, EndedAfterBegun, EndedOnce, OperatesInProgress, FormOfEvent, Allowed, PartiesInProgress, Responsible, HandsWhole, Conflict, Return, Heir, FormedInTime}
 use Rattle.acta_axioms.specs.History.{Place, number, places, has_begun, has_ended, is_in_progress, has_class, parent_of}
 use Rattle.acta_axioms.specs.Operations.{number_after, access_set}
-use Rattle.acta_axioms.specs.Values.{is_well_formed, return_due, conflicting}
+use Rattle.acta_values.specs.Conflicts.{is_well_formed}
+use Rattle.acta_axioms.specs.Values.{return_due, conflicting}
 
 -- the number, if the test is true
 abbrev pub when : Bool → ℕ → List ℕ

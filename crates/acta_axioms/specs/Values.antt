@@ -1,6 +1,5 @@
 -- Values of objects by replay, the returns due, and which operations conflict.
-use Rattle.std.specs.Prelude.{ℕ, Bool, false, ◌&&◌, ◌==◌, List, filter, filter_map, if◌then◌else◌, Option, Some, None, option_map}
-use Rattle.std.specs.Option.{option_map_or}
+use Rattle.std.specs.Prelude.{ℕ, Bool, ◌&&◌, ◌==◌, List, filter, filter_map, if◌then◌else◌, Option, Some, None, option_map}
 use Rattle.acta_table.specs.declared.event.Op.{Op}
 use Rattle.acta_table.specs.declared.event.Ret.{Ret}
 use Rattle.acta_table.specs.declared.event.Kept.{Kept}
@@ -10,11 +9,8 @@ use Rattle.acta_table.specs.Classes.{kind_at}
 use Rattle.acta_objects.specs.declared.state.ObjectState.{ObjectState}
 use Rattle.acta_objects.specs.Objects.{first_state, state_after, returned, suits}
 use Rattle.acta_objects.specs.Conflicts.{conflict_on}
+use Rattle.acta_values.specs.Conflicts.{is_well_formed}
 use Rattle.acta_axioms.specs.Operations.{Operation, view_set, conflict_set}
-
--- whether the object is in the model and its kind has the operation
-abbrev pub is_well_formed : {A : Type 0} → Parts A → ℕ → Op → Bool
-is_well_formed m object op = option_map_or (λ kind. suits kind op) (kind_at m object) false
 
 -- the operation itself, if it is on this object and belongs to its kind
 abbrev pub asked_of : ℕ → Kind → Operation → Option Op

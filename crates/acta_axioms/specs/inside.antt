@@ -1,6 +1,6 @@
 -- Definitions used only by internal contracts and proofs. The public contracts can be read without them.
-pub mod Against
 pub mod Holding
 pub mod TxnRecords
 pub mod Walking
 pub mod Within
+pub mod Wanted

@@ -3,8 +3,8 @@ ghost use Rattle.acta_table.specs.Edges.{with_edge, formed};
 ghost use Rattle.acta_table.specs.declared.event.Event.TheVariants.{Operate};
 ghost use Rattle.acta_axioms.specs.Edges.{formed_by};
 
-use crate::against::edges_wanted;
 use crate::walk::Walk;
+use crate::wanted::edges_wanted;
 use acta_sets::Handle;
 use acta_table::{Edge, Event, ObjId, Op, TxnId};
 use indexmap::IndexSet;

@@ -6,7 +6,6 @@
 //! A call that allocates returns `Err` if memory runs out.
 #![tactic(auto)]
 
-mod against;
 mod course;
 mod fault;
 mod forming;
@@ -21,15 +20,15 @@ mod taking;
 mod trail;
 mod txn_record;
 mod walk;
+mod wanted;
 
 pub use acta_sets::Handle;
-pub use against::{
-    edges_wanted, first_conflict, holders_against, is_well_formed, may_conflict, with_txns,
-};
 pub use course::Course;
 pub use fault::{Axiom, Fault};
 pub use groups::Groups;
 pub use places::Places;
+pub use seeking::with_txns;
 pub use serial::{SerialItem, serial_items};
 pub use strict::is_strict;
 pub use walk::Walk;
+pub use wanted::edges_wanted;

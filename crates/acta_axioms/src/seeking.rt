@@ -1,4 +1,4 @@
-ghost use Rattle.std.specs.Prelude.{◌≡◌, ◌==◌, ℕ, false, map, IfOk};
+ghost use Rattle.std.specs.Prelude.{◌≡◌, ◌==◌, ◌||◌, ℕ, false, map, IfOk};
 ghost use Rattle.std.specs.List.{list_any};
 ghost use Rattle.acta_table.specs.Numbered.{ascending};
 ghost use Rattle.acta_table.specs.Classes.{exempts};
@@ -10,13 +10,11 @@ ghost use Rattle.acta_axioms.specs.Operations.{is_exempt, is_of_others};
 ghost use Rattle.acta_axioms.specs.Permits.{is_permitted};
 ghost use Rattle.acta_axioms.specs.inside.Walking.{standing_in, exempt_numbers, AreExempt, is_against, is_sought, numbers_of};
 
-use crate::against;
-use crate::against::with_txns;
 use crate::walk::Walk;
 use acta_objects::ObjectState;
 use acta_sets::{Handle, HeldOp};
 use acta_table::{Fate, ObjId, Op, OpNo, Scope, TxnId};
-use std::alloc::AllocError;
+use std::alloc::{AllocError, Allocator};
 use std::collections::BTreeSet;
 
 /// A search among the operations, for a transaction.
@@ -26,6 +24,20 @@ pub enum Sought {
     Others,
     /// The operations of the conflict set that conflict with this operation on this object.
     Against(ObjId, Op),
+}
+
+/// Adds these transactions to the set.
+pub fn with_txns<A: Allocator + Copy>(
+    numbers: BTreeSet<u16, A>,
+    txns: &[TxnId],
+) -> Result<BTreeSet<u16, A>, AllocError>
+    ensures { IfOk result (λ all. (u : ℕ) → list_any (λ k. k == u) all.keys ≡ (list_any (λ k. k == u) numbers.keys || list_any (λ t. t.0 == u) txns.now)) }
+{
+    let mut all = numbers;
+    for t in txns {
+        all.insert(t.0)?;
+    }
+    Ok(all)
 }
 
 impl<'a, A: Handle> Walk<'a, A> {
@@ -166,7 +178,7 @@ impl<'a, A: Handle> Walk<'a, A> {
     pub(crate) fn may_conflict(&self, t: TxnId, object: ObjId, op: &Op) -> bool
         ensures { result ≡ false → list_any (is_against self.now.model self.now.front t.0 object.0 op.now) (held_ops self.now.model self.now.front) ≡ false }
     {
-        against::may_conflict(self.allocator(), self.model, self.table(), t, object, op)
+        acta_values::may_conflict(self.allocator(), self.model, self.table(), t, object, op)
     }
 
     /// Whether an operation on this object in the transaction's conflict set, given those exempt, conflicts with this
@@ -181,7 +193,7 @@ impl<'a, A: Handle> Walk<'a, A> {
         requires { AreExempt self.now.model self.now.front t.0 object.0 exempt.now.keys }
         ensures { result ≡ list_any (is_against self.now.model self.now.front t.0 object.0 op.now) (held_ops self.now.model self.now.front) }
     {
-        against::has_conflict(self.model, self.table(), t, exempt, object, op)
+        acta_values::has_conflict(self.model, self.table(), t, exempt, object, op)
     }
 
     // Whether the operation matches the search of a transaction, given its exempt ancestors.
@@ -224,7 +236,7 @@ impl<'a, A: Handle> Walk<'a, A> {
             return Ok(BTreeSet::new(self.allocator()));
         }
         let exempt = self.exempt_on(t, object)?;
-        against::holders_against(
+        acta_values::holders_against(
             self.allocator(),
             self.model,
             self.table(),

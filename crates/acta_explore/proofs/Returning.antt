@@ -23,7 +23,8 @@ use Rattle.acta_objects.specs.WellFormed.{bad_operation}
 use Rattle.acta_axioms.specs.Faults.{when, first_named, ill_formed, is_due, wrong_return, faults_at}
 use Rattle.acta_axioms.specs.History.{Place, places_after}
 use Rattle.acta_axioms.specs.Operations.{Operation, number_after, operation_in, operation_at, operations, standing}
-use Rattle.acta_axioms.specs.Values.{is_well_formed, return_due}
+use Rattle.acta_values.specs.Conflicts.{is_well_formed}
+use Rattle.acta_axioms.specs.Values.{return_due}
 use Rattle.acta_axioms.specs.Walks.{held_op}
 use Rattle.acta_axioms.proofs.Faultless.{none-both, faultless-from}
 use Rattle.acta_machine.specs.Places.{FollowsPlaces}

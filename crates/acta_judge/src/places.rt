@@ -10,11 +10,12 @@ ghost use Rattle.acta_axioms.specs.History.{is_in_progress, has_class};
 ghost use Rattle.acta_axioms.specs.Operations.{number_after, access_set};
 ghost use Rattle.acta_axioms.specs.Faults.{when, first_named, ended, begun_again, ended_unbegun, ended_again, operated_idle, ill_formed, lacks_start, lacks_kind, cannot_form, not_allowed, party, has_number, is_same_ret, is_due, wrong_return, without_heir, not_in_time};
 
-use acta_axioms::{Handle, Walk, is_well_formed};
+use acta_axioms::{Handle, Walk};
 use acta_objects::{form_refusal, is_of_kind};
 use acta_table::{
     AtCommit, Event, EventKind, Extent, Kept, Model, ObjId, Op, Ret, TxnId, smallest_of,
 };
+use acta_values::is_well_formed;
 use std::alloc::{AllocError, Allocator};
 
 // The number of the transaction, if the test is true.

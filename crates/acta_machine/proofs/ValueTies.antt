@@ -15,7 +15,8 @@ use Rattle.acta_objects.specs.Objects.{first_state, state_after, returned}
 use Rattle.acta_objects.specs.Conflicts.{conflict_on}
 use Rattle.acta_axioms.specs.Operations.{Operation, Standing, standing, operations, is_in_view, view_set, conflict_set}
 use Rattle.acta_axioms.specs.Operations as by_places
-use Rattle.acta_axioms.specs.Values.{asked_of, is_well_formed, do_conflict, conflicting}
+use Rattle.acta_values.specs.Conflicts.{is_well_formed}
+use Rattle.acta_axioms.specs.Values.{asked_of, do_conflict, conflicting}
 use Rattle.acta_axioms.specs.Values as by_places_value
 use Rattle.acta_axioms.proofs.Searches.{value-found}
 use Rattle.acta_sets.specs.declared.held_op.HeldOp.{HeldOp}

@@ -8,9 +8,10 @@ ghost use Rattle.acta_machine.specs.Conflicts.{stands_against, conflicting_holde
 ghost use Rattle.acta_machine.specs.inside.Abstraction.{abstraction};
 
 use crate::machine_state::MachineState;
-use acta_axioms::{edges_wanted, first_conflict, holders_against, may_conflict};
+use acta_axioms::edges_wanted;
 use acta_sets::Handle;
 use acta_table::{Edge, Event, ObjId, Op, TxnId};
+use acta_values::{first_conflict, holders_against, may_conflict};
 use std::alloc::AllocError;
 use std::collections::BTreeSet;
 

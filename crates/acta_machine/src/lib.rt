@@ -5,6 +5,7 @@
 //! A call that allocates returns `Err` if memory runs out.
 #![tactic(auto)]
 
+mod broken;
 mod changes;
 mod conflicts;
 mod machine;

@@ -16,11 +16,13 @@ ghost use Rattle.acta_axioms.specs.SerialItems.{serial_items};
 ghost use Rattle.acta_machine.specs.Places.{FollowsPlaces, op_numbers, value_at};
 ghost use Rattle.acta_machine.specs.Table.{fresh, answer_to, answers_to, after, after_all, run_answers, run_state, status_in, class_in, parent_in, permitted_in, value_in, access_set_in, conflict_set_in, view_set_in, edges_in, operations_in, refusal_in, op_added, debts_in};
 ghost use Rattle.acta_machine.specs.Reasons.{refusal_of, IsSo};
+ghost use Rattle.acta_machine.specs.inside.Broken.{rule_of, IsBroken};
 ghost use Rattle.acta_deps.specs.Waiting.{IsChain, IsClosed, StartsWith};
 
+use crate::broken::Broken;
 use crate::machine_state::MachineState;
 use crate::reason::Reason;
-use crate::refused::{Refused, keep_refused, reason_among};
+use crate::refused::{Refused, broken_among, keep_refused};
 use crate::serial::SerialError;
 use acta_axioms::{SerialItem, is_strict, serial_items};
 use acta_deps::Deps;
@@ -98,33 +100,34 @@ impl<A: Handle> Machine<A> {
         // rules on dependencies refuse exactly those next events that would make the history illegal.
         ensures follows { FollowsPlaces self.new }
     {
-        Ok(self.take_with_reason(event)?.answer)
+        Ok(self.take_noting(event)?.answer)
     }
 
-    // Takes one event as `take` does. Also returns why it is refused, if it is.
+    // Takes one event as `take` does. Also returns the lowest rule that it breaks, if it does.
     #[tactic(auto, unfolding(crate::specs::Table::answer_to, crate::specs::Table::after))]
-    fn take_with_reason(&mut self, event: &Event<A>) -> Result<Taken, AllocError>
+    fn take_noting(&mut self, event: &Event<A>) -> Result<Taken, AllocError>
         ensures answer { IfOk result (λ taken. taken.answer ≡ answer_to self.old event.now) }
-        ensures reason { IfOk result (λ taken. option_map refusal_of taken.reason ≡ refusal_in self.old event.now) }
-        ensures so { IfOk result (λ taken. IfSome taken.reason (IsSo self.old.model (summary_of self.old.model self.old.kept) event.now)) }
+        ensures broken { IfOk result (λ taken. option_map rule_of taken.broken ≡ refusal_in self.old event.now) }
+        ensures so { IfOk result (λ taken. IfSome taken.broken (IsBroken self.old.model (summary_of self.old.model self.old.kept) event.now)) }
+        ensures same { IfOk result (λ taken. IfSome taken.broken (λ _. self.new ≡ self.old)) }
         ensures ok { OnOk result (self.new ≡ after self.old event.now) }
         ensures err { OnErr result (self.new ≡ self.old) }
         ensures follows { FollowsPlaces self.new }
     {
-        if let Some(reason) = self.known_reason(event) {
-            return Ok(Taken::refused(reason));
+        if let Some(broken) = self.known_refusal(event) {
+            return Ok(Taken::refused(broken));
         }
         match self.machine_state.admission(event)? {
             Ok(due) => {
                 let answer = self.keep(event, &due)?;
                 Ok(Taken {
                     answer,
-                    reason: None,
+                    broken: None,
                 })
             }
-            Err(reason) => {
-                self.note_refusal(event, reason);
-                Ok(Taken::refused(reason))
+            Err(broken) => {
+                self.note_refusal(event, broken);
+                Ok(Taken::refused(broken))
             }
         }
     }
@@ -143,7 +146,11 @@ impl<A: Handle> Machine<A> {
     {
         let edges_before = self.edges().len();
         let operations_before = self.operations().len();
-        let Taken { answer, reason } = self.take_with_reason(event)?;
+        let Taken { answer, broken } = self.take_noting(event)?;
+        let reason = match broken {
+            Some(broken) => self.reason_for(event, broken),
+            None => None,
+        };
         let operations = self.operations().len();
         let op = if operations_before < operations {
             Some(OpNo(operations as u32))
@@ -164,8 +171,8 @@ impl<A: Handle> Machine<A> {
         ensures refusal { IfOk result (λ reason. option_map refusal_of reason ≡ refusal_in self.now event.now) }
         ensures so { IfOk result (λ reason. IfSome reason (IsSo self.now.model (summary_of self.now.model self.now.kept) event.now)) }
     {
-        match self.known_reason(event) {
-            Some(reason) => Ok(Some(reason)),
+        match self.known_refusal(event) {
+            Some(broken) => Ok(self.reason_for(event, broken)),
             None => self.machine_state.why(event),
         }
     }
@@ -181,23 +188,32 @@ impl<A: Handle> Machine<A> {
         self.machine_state.deps.waits_for_cycle(t)
     }
 
-    // Why the event is refused, if it was refused since the last admitted event.
-    fn known_reason(&self, event: &Event<A>) -> Option<Reason>
-        ensures refusal { IfSome result (λ reason. lowest_broken self.now.model (summary_of self.now.model self.now.kept) event.now ≡ Some (refusal_of reason)) }
-        ensures so { IfSome result (IsSo self.now.model (summary_of self.now.model self.now.kept) event.now) }
+    // The lowest rule that the event breaks, if it was refused since the last admitted event.
+    fn known_refusal(&self, event: &Event<A>) -> Option<Broken>
+        ensures refusal { IfSome result (λ broken. lowest_broken self.now.model (summary_of self.now.model self.now.kept) event.now ≡ Some (rule_of broken)) }
+        ensures so { IfSome result (IsBroken self.now.model (summary_of self.now.model self.now.kept) event.now) }
         ensures follows { FollowsPlaces self.now }
     {
-        reason_among(&self.refused, event)
+        broken_among(&self.refused, event)
     }
 
-    // Remembers why the event is refused.
-    fn note_refusal(&mut self, event: &Event<A>, reason: Reason)
-        requires refusal { lowest_broken self.old.model (summary_of self.old.model self.old.kept) event.now ≡ Some (refusal_of reason) }
-        requires so { IsSo self.old.model (summary_of self.old.model self.old.kept) event.now reason }
+    // The reason of an event that breaks this rule.
+    fn reason_for(&self, event: &Event<A>, broken: Broken) -> Option<Reason>
+        requires { IsBroken self.now.model (summary_of self.now.model self.now.kept) event.now broken }
+        ensures refusal { option_map refusal_of result ≡ Some (rule_of broken) }
+        ensures so { IfSome result (IsSo self.now.model (summary_of self.now.model self.now.kept) event.now) }
+    {
+        self.machine_state.reason_for(event, broken)
+    }
+
+    // Remembers the lowest rule that the event breaks.
+    fn note_refusal(&mut self, event: &Event<A>, broken: Broken)
+        requires refusal { lowest_broken self.old.model (summary_of self.old.model self.old.kept) event.now ≡ Some (rule_of broken) }
+        requires so { IsBroken self.old.model (summary_of self.old.model self.old.kept) event.now broken }
         ensures same { self.new ≡ self.old }
         ensures follows { FollowsPlaces self.new }
     {
-        keep_refused(&mut self.refused, event, reason);
+        keep_refused(&mut self.refused, event, broken);
     }
 
     // Keeps an event that breaks no rule, and forms these edges. On `Err` nothing changes.
@@ -406,23 +422,23 @@ impl<A: Handle> Machine<A> {
     }
 }
 
-// The answer to an event, and the reason if it was refused.
+// The answer to an event, and the lowest rule that it breaks if it was refused.
 #[derive(Drop)]
 struct Taken {
     answer: Answer,
-    reason: Option<Reason>,
+    broken: Option<Broken>,
 }
 
 impl Taken {
     // The outcome of a refused event.
-    fn refused(reason: Reason) -> Taken
-        ensures answer { result.answer ≡ Answer.Refused (refusal_of reason).rule (refusal_of reason).by }
-        ensures reason { result.reason ≡ Some reason }
+    fn refused(broken: Broken) -> Taken
+        ensures answer { result.answer ≡ Answer.Refused (rule_of broken).rule (rule_of broken).by }
+        ensures broken { result.broken ≡ Some broken }
     {
-        let Refusal { rule, by } = reason.refusal();
+        let Refusal { rule, by } = broken.refusal();
         Taken {
             answer: Answer::Refused { rule, by },
-            reason: Some(reason),
+            broken: Some(broken),
         }
     }
 }

@@ -1,4 +1,4 @@
-//! A cache of the events that were refused since the last admitted event, with the reasons. A refusal changes nothing,
+//! A cache of the events that were refused since the last admitted event, with the rules. A refusal changes nothing,
 //! so an event that is submitted again, such as a waiting one, can be answered at once.
 
 ghost use Rattle.std.specs.Prelude.{◌≡◌, IfSome};
@@ -6,27 +6,27 @@ ghost use Rattle.acta_table.specs.declared.model.Parts.{Parts};
 ghost use Rattle.acta_machine.specs.Summary.{Summary};
 ghost use Rattle.acta_machine.specs.inside.Refused.{AreRefused, IsRefusedBy};
 
-use crate::reason::Reason;
+use crate::broken::Broken;
 use acta_table::Event;
 use std::alloc::Allocator;
 
 // The capacity of the cache.
 const ROOM: usize = 64;
 
-/// A refused event, and the reason.
+/// A refused event, and the lowest rule that it breaks.
 #[derive(Drop)]
 pub(crate) struct Refused<A: Allocator> {
     pub(crate) event: Event<A>,
-    pub(crate) reason: Reason,
+    pub(crate) broken: Broken,
 }
 
-/// Why the event is refused, if it is in the list.
-pub(crate) fn reason_among<A: Allocator>(refused: &[Refused<A>], event: &Event<A>) -> Option<Reason>
+/// The lowest rule that the event breaks, if it is in the list.
+pub(crate) fn broken_among<A: Allocator>(refused: &[Refused<A>], event: &Event<A>) -> Option<Broken>
     ensures { (m : Parts A) → (s : Summary) → AreRefused m s refused.now → IfSome result (IsRefusedBy m s event.now) }
 {
     for one in refused {
         if one.event.is_same(event) {
-            return Some(one.reason);
+            return Some(one.broken);
         }
     }
     None
@@ -60,7 +60,7 @@ fn get_room<A: Allocator>(refused: &mut Vec<Refused<A>, A>)
 
 // Appends a refusal. If there is no room, empties the list instead.
 fn put_refused<A: Allocator>(refused: &mut Vec<Refused<A>, A>, one: Refused<A>)
-    ensures { (m : Parts A) → (s : Summary) → AreRefused m s refused.old.items → IsRefusedBy m s one.event one.reason → AreRefused m s refused.new.items }
+    ensures { (m : Parts A) → (s : Summary) → AreRefused m s refused.old.items → IsRefusedBy m s one.event one.broken → AreRefused m s refused.new.items }
 {
     get_room(refused);
     if refused.len() < refused.capacity() {
@@ -71,16 +71,16 @@ fn put_refused<A: Allocator>(refused: &mut Vec<Refused<A>, A>, one: Refused<A>)
     }
 }
 
-/// Remembers why the event is refused, unless it names a list of operations or memory runs out. An event that is not
+/// Remembers the rule by which the event is refused, unless it names a list of operations or memory runs out. An event that is not
 /// remembered is checked again when it comes again.
 pub(crate) fn keep_refused<A: Allocator>(
     refused: &mut Vec<Refused<A>, A>,
     event: &Event<A>,
-    reason: Reason,
+    broken: Broken,
 )
-    ensures { (m : Parts A) → (s : Summary) → AreRefused m s refused.old.items → IsRefusedBy m s event.now reason → AreRefused m s refused.new.items }
+    ensures { (m : Parts A) → (s : Summary) → AreRefused m s refused.old.items → IsRefusedBy m s event.now broken → AreRefused m s refused.new.items }
 {
     if let Some(event) = without_memory(event) {
-        put_refused(refused, Refused { event, reason });
+        put_refused(refused, Refused { event, broken });
     }
 }

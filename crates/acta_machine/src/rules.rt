@@ -16,15 +16,17 @@ ghost use Rattle.acta_machine.specs.Changes.{edges_due};
 ghost use Rattle.acta_machine.specs.Reasons.{refusal_of, statuses_after, IsLack, IsSo};
 ghost use Rattle.acta_machine.specs.Rules.{full, not_in_progress, already_begun, class_may, txn_may, forms_none, is_allowed, not_in_model, partner_not_in_progress, is_of_another, not_held, not_responsible, wants_whole, left_out, partial_delegation, unknown_in, bad_set, refuses_conflicts, conflict, too_late, form_too_late, edges_full, broken_before_conflict, broken_before_edges, dependency, no_heir, lowest_broken};
 ghost use Rattle.acta_machine.specs.inside.Abstraction.{abstraction};
+ghost use Rattle.acta_machine.specs.inside.Broken.{rule_of, IsBroken};
 
+use crate::broken::Broken;
 use crate::machine_state::MachineState;
 use crate::reason::{Lack, NumberedOp, Reason};
 use acta_deps::Block;
 use acta_objects::form_fault;
 use acta_sets::Handle;
 use acta_table::{
-    ClassId, Dep, Edge, Event, EventKind, Extent, MOST_EDGES, MOST_EVENTS, OpNo, OpSet, Status,
-    TxnId, lesser,
+    ClassId, Dep, Edge, Event, EventKind, Extent, MOST_EDGES, MOST_EVENTS, OpNo, OpSet, Refusal,
+    Status, TxnId, lesser,
 };
 use std::alloc::{AllocError, Allocator};
 
@@ -521,38 +523,71 @@ impl<A: Handle> MachineState<A> {
         }
     }
 
-    /// The reason for the lowest broken rule, for an event that would form these edges and breaks no rule before
-    /// EdgesFull.
-    pub(crate) fn broken_from_edges(&self, event: &Event<A>, due: &[Edge]) -> Option<Reason>
-        requires due { due.now ≡ edges_due self.now.model (abstraction self.now) event.now }
-        requires none_before { broken_before_edges self.now.model (abstraction self.now) event.now ≡ None }
-        ensures refusal { option_map refusal_of result ≡ lowest_broken self.now.model (abstraction self.now) event.now }
-        ensures so { IfSome result (IsSo self.now.model (abstraction self.now) event.now) }
+    // The lowest rule on dependencies that the event breaks.
+    fn broken_by_edges(&self, event: &Event<A>) -> Option<Refusal>
+        ensures { result ≡ dependency (abstraction self.now) event.now }
     {
-        if let Some(reason) = self.edges_full(event, due) {
-            return Some(reason);
+        match event {
+            Event::Begin(t, _) => self.deps.may_start(*t),
+            Event::Spawn(_, c, _) => self.deps.may_start(*c),
+            Event::Split(_, u, _, _) => self.deps.may_start(*u),
+            Event::Join(t, _) => self.deps.may_join(*t),
+            Event::Commit(t) => self.deps.may_commit(*t),
+            Event::Abort(t) => self.deps.may_abort(*t),
+            Event::Delegate(_, _, _)
+            | Event::Form(_, _, _)
+            | Event::Operate(_, _, _)
+            | Event::Permit(_, _, _) => None,
         }
-        self.why_by_edges(event).or_else(|| self.no_heir(event))
     }
 
-    /// The edges that the event forms if it breaks no rule, otherwise why it is refused.
+    /// The lowest broken rule, for an event that would form these edges and breaks no rule before EdgesFull.
+    pub(crate) fn broken_from_edges(&self, event: &Event<A>, due: &[Edge]) -> Option<Broken>
+        requires due { due.now ≡ edges_due self.now.model (abstraction self.now) event.now }
+        requires none_before { broken_before_edges self.now.model (abstraction self.now) event.now ≡ None }
+        ensures refusal { option_map rule_of result ≡ lowest_broken self.now.model (abstraction self.now) event.now }
+        ensures so { IfSome result (IsBroken self.now.model (abstraction self.now) event.now) }
+    {
+        if let Some(reason) = self.edges_full(event, due) {
+            return Some(Broken::For(reason));
+        }
+        if let Some(refusal) = self.broken_by_edges(event) {
+            return Some(Broken::ByEdges(refusal));
+        }
+        let reason = self.no_heir(event)?;
+        Some(Broken::For(reason))
+    }
+
+    /// The edges that the event forms if it breaks no rule, otherwise the lowest rule that it breaks.
     pub(crate) fn admission(
         &self,
         event: &Event<A>,
-    ) -> Result<Result<Vec<Edge, A>, Reason>, AllocError>
-        ensures refusal { IfOk result (λ outcome. IfErr outcome (λ reason. lowest_broken self.now.model (abstraction self.now) event.now ≡ Some (refusal_of reason))) }
-        ensures so { IfOk result (λ outcome. IfErr outcome (IsSo self.now.model (abstraction self.now) event.now)) }
+    ) -> Result<Result<Vec<Edge, A>, Broken>, AllocError>
+        ensures refusal { IfOk result (λ outcome. IfErr outcome (λ broken. lowest_broken self.now.model (abstraction self.now) event.now ≡ Some (rule_of broken))) }
+        ensures so { IfOk result (λ outcome. IfErr outcome (IsBroken self.now.model (abstraction self.now) event.now)) }
         ensures none { IfOk result (λ outcome. IfOk outcome (λ _. lowest_broken self.now.model (abstraction self.now) event.now ≡ None)) }
         ensures due { IfOk result (λ outcome. IfOk outcome (λ due. due.items ≡ edges_due self.now.model (abstraction self.now) event.now)) }
         ensures faultless { IfOk result (λ outcome. IfOk outcome (λ _. lowest_fault self.now.model ≡ None)) }
     {
         if let Some(reason) = self.broken_before_edges(event)? {
-            return Ok(Err(reason));
+            return Ok(Err(Broken::For(reason)));
         }
         let due = self.edges_due(event)?;
         match self.broken_from_edges(event, &due) {
-            Some(reason) => Ok(Err(reason)),
+            Some(broken) => Ok(Err(broken)),
             None => Ok(Ok(due)),
+        }
+    }
+
+    /// The reason of an event that breaks this rule.
+    pub(crate) fn reason_for(&self, event: &Event<A>, broken: Broken) -> Option<Reason>
+        requires { IsBroken self.now.model (abstraction self.now) event.now broken }
+        ensures refusal { option_map refusal_of result ≡ Some (rule_of broken) }
+        ensures so { IfSome result (IsSo self.now.model (abstraction self.now) event.now) }
+    {
+        match broken {
+            Broken::For(reason) => Some(reason),
+            Broken::ByEdges(_) => self.why_by_edges(event),
         }
     }
 
@@ -563,7 +598,7 @@ impl<A: Handle> MachineState<A> {
     {
         match self.admission(event)? {
             Ok(_due) => Ok(None),
-            Err(reason) => Ok(Some(reason)),
+            Err(broken) => Ok(self.reason_for(event, broken)),
         }
     }
 }

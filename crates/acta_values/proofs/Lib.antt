@@ -9,3 +9,4 @@ pub mod Read
 pub mod SetStates
 pub mod TakenBack
 pub mod Trails
+pub mod Unconflicted

@@ -1,3 +1,4 @@
+pub mod Conflicts
 pub mod KeptValues
 pub mod Live
 pub mod LiveSets

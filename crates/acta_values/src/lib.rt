@@ -4,12 +4,14 @@
 //! A call that allocates returns `Err` if memory runs out.
 #![tactic(auto)]
 
+mod conflicts;
 mod live_set;
 mod live_value;
 mod store;
 mod trail;
 mod values;
 
+pub use conflicts::{first_conflict, has_conflict, holders_against, is_well_formed, may_conflict};
 pub use live_set::LiveSet;
 pub use live_value::LiveValue;
 pub use store::Store;

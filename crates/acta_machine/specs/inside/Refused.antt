@@ -1,19 +1,18 @@
 -- Events that were refused.
-use Rattle.std.specs.Prelude.{◌≡◌, List, Option, Some}
+use Rattle.std.specs.Prelude.{◌≡◌, List, Some}
 use Rattle.std.specs.List.{All}
-use Rattle.acta_table.specs.declared.answer.Refusal.{Refusal}
 use Rattle.acta_table.specs.declared.event.Event.{Event}
 use Rattle.acta_table.specs.declared.model.Parts.{Parts}
-use Rattle.acta_machine.specs.declared.reason.Reason.{Reason}
+use Rattle.acta_machine.specs.declared.broken.Broken.{Broken}
 use Rattle.acta_machine.specs.declared.refused.Refused.{Refused}
-use Rattle.acta_machine.specs.Reasons.{refusal_of, IsSo}
+use Rattle.acta_machine.specs.inside.Broken.{rule_of, IsBroken}
 use Rattle.acta_machine.specs.Rules.{lowest_broken}
 use Rattle.acta_machine.specs.Summary.{Summary}
 
--- the reason's rule is the lowest that the event breaks, and the reason's facts are true
-unfoldable pub IsRefusedBy : {A : Type 0} → Parts A → Summary → Event A → Reason → Type 0
-IsRefusedBy m s event reason = (lowest_broken m s event ≡ Some (refusal_of reason)) × IsSo m s event reason
+-- the rule is the lowest that the event breaks, and what is known of the reason is true
+unfoldable pub IsRefusedBy : {A : Type 0} → Parts A → Summary → Event A → Broken → Type 0
+IsRefusedBy m s event broken = (lowest_broken m s event ≡ Some (rule_of broken)) × IsBroken m s event broken
 
--- each of these events is refused for its reason
+-- each of these events is refused by its rule
 abbrev pub AreRefused : {A : Type 0} → Parts A → Summary → List (Refused A) → Type 0
-AreRefused m s refused = All (λ one. IsRefusedBy m s one.event one.reason) refused
+AreRefused m s refused = All (λ one. IsRefusedBy m s one.event one.broken) refused

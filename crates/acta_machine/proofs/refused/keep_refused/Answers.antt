@@ -6,4 +6,4 @@ use Rattle.acta_machine.proofs.refused.keep_refused.Goals as goal
 pub returns-in-Some : goal.returns-in-Some
 returns-in-Some g c =
     λ m s all so.
-    c.put_refused.ensures m s all (subst (λ (e : Event g.row.A.Denot). IsRefusedBy m s e c.args.reason) (sym c.in-Some.ensures) so)
+    c.put_refused.ensures m s all (subst (λ (e : Event g.row.A.Denot). IsRefusedBy m s e c.args.broken) (sym c.in-Some.ensures) so)

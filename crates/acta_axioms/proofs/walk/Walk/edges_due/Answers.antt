@@ -1,6 +1,6 @@
 use Rattle.std.proofs.Common.{ap, ◌∙◌}
 use Rattle.std.proofs.lemmas.Result.{IfOk-weaker}
-use Rattle.acta_axioms.specs.inside.Against.{edges_wanted}
+use Rattle.acta_axioms.specs.inside.Wanted.{edges_wanted}
 use Rattle.acta_axioms.proofs.EdgesWanted.{wanted-formed}
 use Rattle.acta_axioms.proofs.walk.Walk.edges_due.Goals as goal
 

@@ -1,7 +1,7 @@
 use Rattle.std.proofs.Common.{◌&&◌, ap, ◌∙◌}
 use Rattle.std.specs.List.{list_any}
 use Rattle.acta_sets.specs.Operations.{is_against as is_against_in}
-use Rattle.acta_axioms.specs.Values.{is_well_formed}
+use Rattle.acta_values.specs.Conflicts.{is_well_formed}
 use Rattle.acta_axioms.specs.inside.Walking.{is_against}
 use Rattle.acta_axioms.proofs.Searches.{any-tells}
 use Rattle.acta_axioms.proofs.walk.Walk.has_conflict.Goals as goal

@@ -1,11 +1,11 @@
 use Rattle.std.proofs.Common.{true, [], if◌then◌else◌, ap, ◌∙◌}
 use Rattle.std.proofs.lemmas.Result.{IfOk-weaker}
 use Rattle.acta_sets.specs.Operations.{holders_against}
-use Rattle.acta_axioms.specs.Values.{is_well_formed}
+use Rattle.acta_values.specs.Conflicts.{is_well_formed}
 use Rattle.acta_axioms.specs.Walks.{held_ops}
 use Rattle.acta_axioms.specs.inside.Walking.{is_against}
 use Rattle.acta_axioms.proofs.Searches.{holders-found, holders-tell}
-use Rattle.acta_axioms.proofs.Unconflicted.{holders-unconflicted}
+use Rattle.acta_values.proofs.Unconflicted.{holders-unconflicted}
 use Rattle.acta_axioms.proofs.walk.Walk.holders_against.Goals as goal
 
 pub returns-then-not-may_conflict : goal.returns-then-not-may_conflict

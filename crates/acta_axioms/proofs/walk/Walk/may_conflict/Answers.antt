@@ -2,8 +2,7 @@ use Rattle.std.proofs.Common.{◌&&◌, List, sym, ap, ◌∙◌}
 use Rattle.std.specs.List.{list_any}
 use Rattle.acta_sets.specs.declared.held_op.HeldOp.{HeldOp}
 use Rattle.acta_axioms.specs.Operations.{is_exempt}
-use Rattle.acta_axioms.specs.Values.{is_well_formed}
-use Rattle.acta_axioms.specs.inside.Against.{is_against_but}
+use Rattle.acta_values.specs.Conflicts.{is_against_but, is_well_formed}
 use Rattle.acta_axioms.proofs.Searches.{none-conflicted}
 use Rattle.acta_axioms.proofs.walk.Walk.may_conflict.Goals as goal
 

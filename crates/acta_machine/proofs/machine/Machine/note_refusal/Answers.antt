@@ -17,7 +17,7 @@ invariant_of-self g c =
       within = c.self.invariant.within;
       follows = c.self.invariant.follows;
       refused = c.keep_refused.ensures model (abstraction c.self.inside.machine_state) c.self.invariant.refused
-          (subst (λ (s : Summary). IsRefusedBy model s c.args.event.now c.args.reason) (sym c.self.invariant.agrees)
-          (subst (λ (x : State g.row.A.Denot). IsRefusedBy x.model (summary_of x.model x.kept) c.args.event.now c.args.reason) (sym c.self.view_is)
+          (subst (λ (s : Summary). IsRefusedBy model s c.args.event.now c.args.broken) (sym c.self.invariant.agrees)
+          (subst (λ (x : State g.row.A.Denot). IsRefusedBy x.model (summary_of x.model x.kept) c.args.event.now c.args.broken) (sym c.self.view_is)
           (c.requires.refusal, c.requires.so)));
     }

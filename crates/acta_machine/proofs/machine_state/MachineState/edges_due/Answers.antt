@@ -1,6 +1,6 @@
 use Rattle.std.proofs.Common.{ap, ◌∙◌}
 use Rattle.std.proofs.lemmas.Result.{IfOk-weaker}
-use Rattle.acta_axioms.specs.inside.Against.{edges_wanted}
+use Rattle.acta_axioms.specs.inside.Wanted.{edges_wanted}
 use Rattle.acta_machine.specs.inside.Abstraction.{abstraction}
 use Rattle.acta_machine.proofs.ConflictingHolders.{wanted-due}
 use Rattle.acta_machine.proofs.machine_state.MachineState.edges_due.Goals as goal

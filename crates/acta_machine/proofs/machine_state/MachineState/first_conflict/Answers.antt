@@ -3,9 +3,8 @@ use Rattle.std.specs.List.{list_any}
 use Rattle.acta_table.specs.Numbered.{first_number}
 use Rattle.acta_sets.specs.declared.held_op.HeldOp.{HeldOp}
 use Rattle.acta_sets.specs.Operations.{is_against}
-use Rattle.acta_axioms.specs.Values.{is_well_formed}
-use Rattle.acta_axioms.proofs.Unconflicted.{first-unconflicted}
-use Rattle.acta_axioms.specs.inside.Against.{is_against_but}
+use Rattle.acta_values.specs.Conflicts.{is_against_but, is_well_formed}
+use Rattle.acta_values.proofs.Unconflicted.{first-unconflicted}
 use Rattle.acta_machine.specs.inside.Exempt.{is_exempt}
 use Rattle.acta_machine.specs.inside.Abstraction.{abstraction}
 use Rattle.acta_machine.proofs.ConflictingHolders.{first-but, first-tells}

@@ -7,7 +7,7 @@ use Rattle.acta_table.specs.Fates.{is_open}
 use Rattle.acta_table.specs.Numbered.{first_number, ascending}
 use Rattle.acta_sets.specs.declared.held_op.HeldOp.{HeldOp}
 use Rattle.acta_sets.specs.Operations.{is_against, ops_conflict}
-use Rattle.acta_axioms.specs.inside.Against.{is_against_but}
+use Rattle.acta_values.specs.Conflicts.{is_against_but}
 
 fewer-by : (a s o c : Bool) → (a && not false && o && c) ≡ false → (a && not s && o && c) ≡ false
 fewer-by true true o c none = refl

@@ -1,9 +1,9 @@
 use Rattle.std.proofs.Common.{◌&&◌, List, ℕ, sym, ap, ◌∙◌}
 use Rattle.std.specs.List.{list_any}
 use Rattle.acta_sets.specs.Operations.{is_against}
-use Rattle.acta_axioms.specs.Values.{is_well_formed}
-use Rattle.acta_axioms.proofs.Unconflicted.{not_exempt}
-use Rattle.acta_axioms.proofs.against.may_conflict.Goals as goal
+use Rattle.acta_values.specs.Conflicts.{is_well_formed}
+use Rattle.acta_values.proofs.Unconflicted.{not_exempt}
+use Rattle.acta_values.proofs.conflicts.may_conflict.Goals as goal
 
 pub returns : goal.returns
 returns g c =

@@ -1,6 +1,6 @@
 use Rattle.std.proofs.Common.{◌≡◌, ℕ, ◌||◌, ◌==◌, take}
 use Rattle.std.specs.List.{list_any}
-use Rattle.acta_axioms.proofs.against.with_txns.Given as goal
+use Rattle.acta_axioms.proofs.seeking.with_txns.Given as goal
 
 -- the set contains its old numbers and the transactions so far
 abbrev pub invariant-loop-t : goal.invariant-loop-t

@@ -1,16 +1,14 @@
-//! Conflicting operations on an object of a model, and the edges that an event forms. Walks through a history and the
-//! machine share this search.
+//! Conflicting operations on an object of a model. Walks through a history and the machine share this search.
 
-ghost use Rattle.std.specs.Prelude.{◌≡◌, ℕ, Bool, false, ◌&&◌, ◌||◌, ◌==◌, [], None, IfOk, if◌then◌else◌};
+ghost use Rattle.std.specs.Prelude.{◌≡◌, ℕ, Bool, false, ◌&&◌, [], None, IfOk, if◌then◌else◌};
 ghost use Rattle.std.specs.List.{list_any};
 ghost use Rattle.acta_table.specs.Numbered.{first_number};
 ghost use Rattle.acta_sets.specs.Operations.{is_against, holders_against};
-ghost use Rattle.acta_axioms.specs.Values.{is_well_formed};
-ghost use Rattle.acta_axioms.specs.inside.Against.{edges_wanted, is_against_but};
+ghost use Rattle.acta_values.specs.Conflicts.{is_against_but, is_well_formed};
 
 use acta_objects::is_of_kind;
 use acta_sets::{Handle, OpTable};
-use acta_table::{Class, Edge, Event, Model, ObjId, Op, TxnId};
+use acta_table::{Model, ObjId, Op, TxnId};
 use std::alloc::{AllocError, Allocator};
 use std::collections::BTreeSet;
 
@@ -88,49 +86,5 @@ pub fn holders_against<A: Handle>(
         operations.holders_against(t, exempts, object, op)
     } else {
         Ok(BTreeSet::new(alloc))
-    }
-}
-
-/// Adds these transactions to the set.
-pub fn with_txns<A: Allocator + Copy>(
-    numbers: BTreeSet<u16, A>,
-    txns: &[TxnId],
-) -> Result<BTreeSet<u16, A>, AllocError>
-    ensures { IfOk result (λ all. (u : ℕ) → list_any (λ k. k == u) all.keys ≡ (list_any (λ k. k == u) numbers.keys || list_any (λ t. t.0 == u) txns.now)) }
-{
-    let mut all = numbers;
-    for t in txns {
-        all.insert(t.0)?;
-    }
-    Ok(all)
-}
-
-/// The edges that an event other than an operation forms, in order: the start edges of the class that a spawn or a
-/// split names, if it is among these classes, or the edge of a form event.
-pub fn edges_wanted<A: Allocator + Copy>(
-    alloc: A,
-    classes: &[Class<A>],
-    event: &Event<A>,
-) -> Result<Vec<Edge, A>, AllocError>
-    ensures { IfOk result (λ edges. edges.items ≡ edges_wanted classes.now event.now) }
-{
-    match event {
-        Event::Spawn(t, c, class) => match classes.get(class.0 as usize) {
-            Some(class) => class.spawn_edges.between(alloc, *t, *c),
-            None => Ok(Vec::new(alloc)),
-        },
-        Event::Split(t, u, class, _) => match classes.get(class.0 as usize) {
-            Some(class) => class.split_edges.between(alloc, *t, *u),
-            None => Ok(Vec::new(alloc)),
-        },
-        Event::Form(kind, j, i) => {
-            let edge = Edge {
-                kind: *kind,
-                j: *j,
-                i: *i,
-            };
-            Vec::from_slice(alloc, &[edge])
-        }
-        _ => Ok(Vec::new(alloc)),
     }
 }

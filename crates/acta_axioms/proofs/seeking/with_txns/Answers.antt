@@ -3,7 +3,7 @@ use Rattle.std.specs.List.{list_any}
 use Rattle.acta_table.specs.declared.event.TxnId.{TxnId}
 use Rattle.acta_table.proofs.AscendingSets.{any-inserted}
 use Rattle.acta_axioms.proofs.Taken.{any-taken}
-use Rattle.acta_axioms.proofs.against.with_txns.Goals as goal
+use Rattle.acta_axioms.proofs.seeking.with_txns.Goals as goal
 
 swapped : (a b c : Bool) → (a || (b || c)) ≡ (b || (c || a))
 swapped true true c = refl
