@@ -1,9 +1,9 @@
 //! The parts of a picture that a refused event points to: the operation, the edges or the transaction that its reason names.
 
-use acta_machine::{Handle, Machine, Reason};
-use acta_table::{Answer, Event, OpNo, Rule, TxnId};
-use acta_trace::{Step, Steps};
-use std::alloc::{AllocError, Allocator};
+use acta_machine::Reason;
+use acta_table::{Event, OpNo, TxnId};
+use acta_trace::Steps;
+use std::alloc::Allocator;
 
 /// A part of a history that the reason of a refusal names.
 #[derive(Clone, Copy, PartialEq, Eq, Debug)]
@@ -53,70 +53,33 @@ fn forms_begin_kind<A: Allocator>(event: &Event<A>) -> bool {
     }
 }
 
-// The transaction of this number.
-fn txn_of(number: u32) -> Option<TxnId> {
-    match u16::try_from(number) {
-        Ok(number) => Some(TxnId(number)),
-        Err(_) => None,
-    }
-}
-
-// The blocker of this number, where the rule names an operation, an edge or a transaction. A begin kind is that of an edge that
-// is to be formed.
-fn named_by(rule: Rule, number: u32, is_begin_kind: bool) -> Option<Blocker> {
-    match rule {
-        Rule::NotResponsible | Rule::PartialDelegation | Rule::Conflict => {
-            Some(Blocker::Operation(OpNo(number)))
+/// The blockers of an event that was refused for this reason.
+pub fn blockers_of<A: Allocator>(event: &Event<A>, reason: Reason) -> Blockers {
+    let blocker = match reason {
+        Reason::NotResponsible(op) | Reason::PartialDelegation(op) | Reason::Conflict(op) => {
+            Blocker::Operation(op.number)
         }
-        Rule::BeginDep
-        | Rule::SerialDep
-        | Rule::BeginOnCommit
-        | Rule::BeginOnAbort
-        | Rule::TerminationDep
-        | Rule::OwesAbort
-        | Rule::OwesCommit
-        | Rule::CommitOrder
-        | Rule::WeakBegin
-        | Rule::Unpayable => Some(Blocker::Edge(number)),
-        Rule::AlreadyBegun => Some(Blocker::Start(txn_of(number)?)),
-        Rule::FormTooLate if is_begin_kind => Some(Blocker::Start(txn_of(number)?)),
-        Rule::FormTooLate | Rule::NotInProgress | Rule::PartnerNotInProgress | Rule::NoHeir => Some(
-            Blocker::End(txn_of(number)?),
-        ),
-        _ => None,
-    }
-}
-
-// The two edges of a clash, where the machine refuses the event by one.
-fn clash_of<A: Handle>(machine: &Machine<A>, event: &Event<A>) -> Result<Blockers, AllocError> {
-    match machine.why(event)? {
-        Some(Reason::Clash(clash)) => Ok(Blockers {
-            first: Some(Blocker::Edge(clash.commit.number)),
-            second: Some(Blocker::Edge(clash.abort.number)),
-        }),
-        _ => Ok(Blockers::NONE),
-    }
-}
-
-/// The blockers of a step, where the machine is as the step left it. An admitted step has none.
-pub fn blockers_of<A: Handle>(
-    machine: &Machine<A>,
-    step: &Step<A>,
-) -> Result<Blockers, AllocError> {
-    match step.answer {
-        Answer::Admitted { .. } => Ok(Blockers::NONE),
-        Answer::Refused { rule, by } => {
-            if rule == Rule::Clash {
-                return clash_of(machine, &step.event);
-            }
-            let first = match by {
-                Some(number) => named_by(rule, number, forms_begin_kind(&step.event)),
-                None => None,
+        Reason::Blocked(blocking_edge) => Blocker::Edge(blocking_edge.by.number),
+        Reason::Clash(clash) => {
+            return Blockers {
+                first: Some(Blocker::Edge(clash.commit.number)),
+                second: Some(Blocker::Edge(clash.abort.number)),
             };
-            Ok(Blockers {
-                first,
-                second: None,
-            })
         }
+        Reason::AlreadyBegun { txn, .. } => Blocker::Start(txn),
+        Reason::FormTooLate { txn, .. } if forms_begin_kind(event) => Blocker::Start(txn),
+        Reason::FormTooLate { txn, .. }
+        | Reason::NotInProgress { txn, .. }
+        | Reason::PartnerNotInProgress { txn, .. } => Blocker::End(txn),
+        Reason::NoHeir { parent, .. } => Blocker::End(parent),
+        Reason::Full
+        | Reason::Form(_)
+        | Reason::NotInModel(_)
+        | Reason::BadSet { .. }
+        | Reason::EdgesFull => return Blockers::NONE,
+    };
+    Blockers {
+        first: Some(blocker),
+        second: None,
     }
 }

@@ -1,8 +1,10 @@
 //! The run of an input as lanes and rows: a row for each event with its answer, what it formed and why it was refused,
 //! and for each transaction from which row to which its lane goes.
 
-ghost use Rattle.std.specs.Prelude.{◌≡◌};
-ghost use Rattle.acta_draw.specs.Rows.{place_after, returned};
+ghost use Rattle.std.specs.Prelude.{◌≡◌, ◌++◌, false, map, slice_get, None, Some, IfOk, IfSome, OnOk};
+ghost use Rattle.acta_prose.specs.Runs.{noted_all};
+ghost use Rattle.acta_trace.specs.Traces.{not_begun};
+ghost use Rattle.acta_draw.specs.Rows.{place_after, places_from, returned};
 
 use crate::blockers::{Blocker, Blockers, blockers_of};
 use crate::marks::{Figure, figure_of};
@@ -91,8 +93,6 @@ pub struct Lanes<A: Handle> {
     pub owed: Vec<Owed, A>,
     /// The faulty line that stopped the run.
     pub stop: Option<BadLine>,
-    // For each row the blockers of its event.
-    blockers: Vec<Blockers, A>,
 }
 
 impl<A: Handle> Lanes<A> {
@@ -103,7 +103,10 @@ impl<A: Handle> Lanes<A> {
         model: Model<A>,
         read: Input<'_, Event<A>, A>,
         last: Option<u32>,
-    ) -> Result<Lanes<A>, AllocError> {
+    ) -> Result<Lanes<A>, AllocError>
+        ensures run { last ≡ None → IfOk result (λ lanes. lanes.run ≡ noted_all (not_begun model) (map (λ line. line.line) read.lines.items) read.parsed.items) }
+        ensures places { IfOk result (λ lanes. lanes.places.items ≡ places_from 0 lanes.run.steps) }
+    {
         let Input {
             parsed,
             lines,
@@ -114,7 +117,6 @@ impl<A: Handle> Lanes<A> {
             places: Vec::new(alloc),
             owed: Vec::new(alloc),
             stop,
-            blockers: Vec::new(alloc),
         };
         lanes.take_all(parsed, lines.as_slice(), last)?;
         lanes.note_places()?;
@@ -130,18 +132,28 @@ impl<A: Handle> Lanes<A> {
         events: Vec<Event<A>, A>,
         lines: &[NonBlankLine<'_>],
         last: Option<u32>,
-    ) -> Result<(), AllocError> {
-        for (event, line) in events.into_iter().zip(lines) {
+    ) -> Result<(), AllocError>
+        ensures run { last ≡ None → OnOk result (self.new.run ≡ noted_all self.old.run (map (λ line. line.line) lines.now) events.items) }
+        ensures places { self.new.places ≡ self.old.places }
+    {
+        let mut next = 0;
+        for event in events {
+            let Some(line) = lines.get(next) else {
+                return Ok(());
+            };
             if self.is_after(last, &event)? {
                 return Ok(());
             }
-            self.take(*line, event)?;
+            self.run.take(*line, event)?;
+            next += 1;
         }
         Ok(())
     }
 
     // Whether the event would have a place after the last one.
-    fn is_after(&self, last: Option<u32>, event: &Event<A>) -> Result<bool, AllocError> {
+    fn is_after(&self, last: Option<u32>, event: &Event<A>) -> Result<bool, AllocError>
+        ensures { last ≡ None → IfOk result (λ is_after. is_after ≡ false) }
+    {
         let machine = self.run.machine();
         match last {
             Some(last) if machine.history().len() >= last as usize => {
@@ -151,21 +163,11 @@ impl<A: Handle> Lanes<A> {
         }
     }
 
-    // Takes the event that the line says.
-    fn take(&mut self, line: NonBlankLine<'_>, event: Event<A>) -> Result<(), AllocError> {
-        self.run.take(line, event)?;
-        let machine = self.run.machine();
-        let blockers = match self.run.steps().get(self.blockers.len()) {
-            Some(step) => blockers_of(machine, step)?,
-            // (a refused event that isn't kept has no step)
-            None => return Ok(()),
-        };
-        self.blockers.push(blockers)?;
-        Ok(())
-    }
-
     // Notes the place of each row.
-    fn note_places(&mut self) -> Result<(), AllocError> {
+    fn note_places(&mut self) -> Result<(), AllocError>
+        ensures run { self.new.run ≡ self.old.run }
+        ensures places { OnOk result (self.new.places.items ≡ self.old.places.items ++ places_from 0 self.old.run.steps) }
+    {
         let mut last = 0u32;
         for step in self.run.steps() {
             let place = place_after(last, &step.answer);
@@ -179,9 +181,9 @@ impl<A: Handle> Lanes<A> {
 
     /// The blockers of the event of a row.
     pub fn blockers(&self, number: usize) -> Blockers {
-        match self.blockers.get(number) {
-            Some(blockers) => *blockers,
-            None => Blockers::NONE,
+        match (self.run.steps().get(number), self.run.reason(number)) {
+            (Some(step), Some(reason)) => blockers_of(&step.event, reason),
+            _ => Blockers::NONE,
         }
     }
 
@@ -192,7 +194,10 @@ impl<A: Handle> Lanes<A> {
     }
 
     /// The row of this number.
-    pub fn row(&self, number: usize) -> Option<Row<'_, A>> {
+    pub fn row(&self, number: usize) -> Option<Row<'_, A>>
+        ensures step { IfSome result (λ row. slice_get self.now.run.steps number ≡ Some row.step.now) }
+        ensures place { IfSome result (λ row. slice_get self.now.places.items number ≡ Some row.place) }
+    {
         let step = self.run.steps().get(number)?;
         let machine = self.run.machine();
         let heir = match &step.event {

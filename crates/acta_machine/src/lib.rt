@@ -5,9 +5,9 @@
 //! A call that allocates returns `Err` if memory runs out.
 #![tactic(auto)]
 
-mod broken;
 mod changes;
 mod conflicts;
+mod lowest;
 mod machine;
 mod machine_state;
 mod reason;

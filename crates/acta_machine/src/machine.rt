@@ -19,7 +19,7 @@ ghost use Rattle.acta_machine.specs.Reasons.{refusal_of, IsSo};
 ghost use Rattle.acta_machine.specs.inside.Broken.{rule_of, IsBroken};
 ghost use Rattle.acta_deps.specs.Waiting.{IsChain, IsClosed, StartsWith};
 
-use crate::broken::Broken;
+use crate::lowest::Broken;
 use crate::machine_state::MachineState;
 use crate::reason::Reason;
 use crate::refused::{Refused, broken_among, keep_refused};
@@ -100,44 +100,22 @@ impl<A: Handle> Machine<A> {
         // rules on dependencies refuse exactly those next events that would make the history illegal.
         ensures follows { FollowsPlaces self.new }
     {
-        Ok(self.take_noting(event)?.answer)
-    }
-
-    // Takes one event as `take` does. Also returns the lowest rule that it breaks, if it does.
-    #[tactic(auto, unfolding(crate::specs::Table::answer_to, crate::specs::Table::after))]
-    fn take_noting(&mut self, event: &Event<A>) -> Result<Taken, AllocError>
-        ensures answer { IfOk result (λ taken. taken.answer ≡ answer_to self.old event.now) }
-        ensures broken { IfOk result (λ taken. option_map rule_of taken.broken ≡ refusal_in self.old event.now) }
-        ensures so { IfOk result (λ taken. IfSome taken.broken (IsBroken self.old.model (summary_of self.old.model self.old.kept) event.now)) }
-        ensures same { IfOk result (λ taken. IfSome taken.broken (λ _. self.new ≡ self.old)) }
-        ensures ok { OnOk result (self.new ≡ after self.old event.now) }
-        ensures err { OnErr result (self.new ≡ self.old) }
-        ensures follows { FollowsPlaces self.new }
-    {
         if let Some(broken) = self.known_refusal(event) {
-            return Ok(Taken::refused(broken));
+            return Ok(broken.answer());
         }
         match self.machine_state.admission(event)? {
-            Ok(due) => {
-                let answer = self.keep(event, &due)?;
-                Ok(Taken {
-                    answer,
-                    broken: None,
-                })
-            }
+            Ok(due) => self.keep(event, &due),
             Err(broken) => {
                 self.note_refusal(event, broken);
-                Ok(Taken::refused(broken))
+                Ok(broken.answer())
             }
         }
     }
 
-    /// Takes one event as `take` does. Also returns why a refused event is refused, the number of the operation that
-    /// the event adds, and how many edges were in force before it (new edges follow these).
+    /// Takes one event as `take` does. Also returns the number of the operation that the event adds, and how many edges
+    /// were in force before it (new edges follow these).
     pub fn take_forming(&mut self, event: &Event<A>) -> Result<Formed, AllocError>
         ensures answer { IfOk result (λ formed. formed.answer ≡ answer_to self.old event.now) }
-        ensures reason { IfOk result (λ formed. option_map refusal_of formed.reason ≡ refusal_in self.old event.now) }
-        ensures so { IfOk result (λ formed. IfSome formed.reason (IsSo self.old.model (summary_of self.old.model self.old.kept) event.now)) }
         ensures op { IfOk result (λ formed. formed.op ≡ op_added self.old event.now) }
         ensures edges { IfOk result (λ formed. formed.edges_before ≡ length (edges_in self.old)) }
         ensures ok { OnOk result (self.new ≡ after self.old event.now) }
@@ -146,11 +124,7 @@ impl<A: Handle> Machine<A> {
     {
         let edges_before = self.edges().len();
         let operations_before = self.operations().len();
-        let Taken { answer, broken } = self.take_noting(event)?;
-        let reason = match broken {
-            Some(broken) => self.reason_for(event, broken),
-            None => None,
-        };
+        let answer = self.take(event)?;
         let operations = self.operations().len();
         let op = if operations_before < operations {
             Some(OpNo(operations as u32))
@@ -159,14 +133,14 @@ impl<A: Handle> Machine<A> {
         };
         Ok(Formed {
             answer,
-            reason,
             op,
             edges_before,
         })
     }
 
     /// Returns why the event would be refused next: the rule and number that `take` would answer, and the part of the
-    /// machine's state that breaks the rule. `None` if the event would be admitted.
+    /// machine's state that breaks the rule. `None` if the event would be admitted. Right after `take` has refused the
+    /// event, no rule is evaluated again.
     pub fn why(&self, event: &Event<A>) -> Result<Option<Reason>, AllocError>
         ensures refusal { IfOk result (λ reason. option_map refusal_of reason ≡ refusal_in self.now event.now) }
         ensures so { IfOk result (λ reason. IfSome reason (IsSo self.now.model (summary_of self.now.model self.now.kept) event.now)) }
@@ -422,34 +396,11 @@ impl<A: Handle> Machine<A> {
     }
 }
 
-// The answer to an event, and the lowest rule that it breaks if it was refused.
-#[derive(Drop)]
-struct Taken {
-    answer: Answer,
-    broken: Option<Broken>,
-}
-
-impl Taken {
-    // The outcome of a refused event.
-    fn refused(broken: Broken) -> Taken
-        ensures answer { result.answer ≡ Answer.Refused (rule_of broken).rule (rule_of broken).by }
-        ensures broken { result.broken ≡ Some broken }
-    {
-        let Refusal { rule, by } = broken.refusal();
-        Taken {
-            answer: Answer::Refused { rule, by },
-            broken: Some(broken),
-        }
-    }
-}
-
 /// The outcome of an event.
 #[derive(Clone, Copy, PartialEq, Eq, Debug)]
 pub struct Formed {
     /// The answer to it.
     pub answer: Answer,
-    /// Why the event was refused, if it was.
-    pub reason: Option<Reason>,
     /// The number of the operation that the event added, if it did.
     pub op: Option<OpNo>,
     /// How many edges were in force before the event; the edges that it formed follow these.

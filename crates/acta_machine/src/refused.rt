@@ -6,7 +6,7 @@ ghost use Rattle.acta_table.specs.declared.model.Parts.{Parts};
 ghost use Rattle.acta_machine.specs.Summary.{Summary};
 ghost use Rattle.acta_machine.specs.inside.Refused.{AreRefused, IsRefusedBy};
 
-use crate::broken::Broken;
+use crate::lowest::Broken;
 use acta_table::Event;
 use std::alloc::Allocator;
 
@@ -32,23 +32,6 @@ pub(crate) fn broken_among<A: Allocator>(refused: &[Refused<A>], event: &Event<A
     None
 }
 
-// A copy of the event, unless it has a list of operations, which would need an allocation.
-fn without_memory<A: Allocator>(event: &Event<A>) -> Option<Event<A>>
-    ensures { IfSome result (λ copy. copy ≡ event.now) }
-{
-    match event {
-        Event::Begin(t, class) => Some(Event::Begin(*t, *class)),
-        Event::Spawn(t, c, class) => Some(Event::Spawn(*t, *c, *class)),
-        Event::Join(t, u) => Some(Event::Join(*t, *u)),
-        Event::Form(kind, j, i) => Some(Event::Form(*kind, *j, *i)),
-        Event::Operate(t, ob, op) => Some(Event::Operate(*t, *ob, *op)),
-        Event::Commit(t) => Some(Event::Commit(*t)),
-        Event::Abort(t) => Some(Event::Abort(*t)),
-        Event::Permit(t, u, ob) => Some(Event::Permit(*t, *u, *ob)),
-        Event::Split(_, _, _, _) | Event::Delegate(_, _, _) => None,
-    }
-}
-
 // Reserves the capacity on first use. If memory runs out, nothing changes.
 fn get_room<A: Allocator>(refused: &mut Vec<Refused<A>, A>)
     ensures { refused.new.items ≡ refused.old.items }
@@ -58,29 +41,27 @@ fn get_room<A: Allocator>(refused: &mut Vec<Refused<A>, A>)
     }
 }
 
-// Appends a refusal. If there is no room, empties the list instead.
+// Appends a refusal, after the list was emptied if it was full. If memory runs out, nothing is appended.
 fn put_refused<A: Allocator>(refused: &mut Vec<Refused<A>, A>, one: Refused<A>)
     ensures { (m : Parts A) → (s : Summary) → AreRefused m s refused.old.items → IsRefusedBy m s one.event one.broken → AreRefused m s refused.new.items }
 {
     get_room(refused);
-    if refused.len() < refused.capacity() {
-        refused.push_reserved(one);
-    } else {
+    if refused.len() == refused.capacity() {
         refused.clear();
-        drop(one);
     }
+    let _ = refused.push(one);
 }
 
-/// Remembers the rule by which the event is refused, unless it names a list of operations or memory runs out. An event that is not
-/// remembered is checked again when it comes again.
-pub(crate) fn keep_refused<A: Allocator>(
+/// Remembers the rule by which the event is refused, unless memory runs out. An event that is not remembered is checked
+/// again when it comes again.
+pub(crate) fn keep_refused<A: Allocator + Copy>(
     refused: &mut Vec<Refused<A>, A>,
     event: &Event<A>,
     broken: Broken,
 )
     ensures { (m : Parts A) → (s : Summary) → AreRefused m s refused.old.items → IsRefusedBy m s event.now broken → AreRefused m s refused.new.items }
 {
-    if let Some(event) = without_memory(event) {
+    if let Ok(event) = event.copy() {
         put_refused(refused, Refused { event, broken });
     }
 }

@@ -18,7 +18,7 @@ ghost use Rattle.acta_machine.specs.Rules.{full, not_in_progress, already_begun,
 ghost use Rattle.acta_machine.specs.inside.Abstraction.{abstraction};
 ghost use Rattle.acta_machine.specs.inside.Broken.{rule_of, IsBroken};
 
-use crate::broken::Broken;
+use crate::lowest::Broken;
 use crate::machine_state::MachineState;
 use crate::reason::{Lack, NumberedOp, Reason};
 use acta_deps::Block;

@@ -14,7 +14,7 @@ use crate::put;
 use crate::reasons::Refused;
 use acta_hope::why_and_hope;
 use acta_io::NonBlankLine;
-use acta_machine::{Handle, Machine};
+use acta_machine::{Handle, Machine, Reason};
 use acta_table::{Answer, Edge, Event, LAST_TXN, Model, Rule, TxnId, lengthen};
 use acta_trace::{Step, Trace};
 use std::alloc::{AllocError, Allocator};
@@ -38,6 +38,8 @@ pub struct RunTrace<A: Handle> {
     trace: Trace<A>,
     // One for each step.
     texts: Vec<StepText<A>, A>,
+    // For each step why its event was refused, if it was.
+    reasons: Vec<Option<Reason>, A>,
     // The places of the refused steps since the last admitted event.
     refused: Vec<usize, A>,
     // For each transaction the place of its last event, if that was refused.
@@ -45,6 +47,23 @@ pub struct RunTrace<A: Handle> {
     refused_steps: usize,
     skipped: usize,
     looks_left: usize,
+}
+
+// Why an event was refused, in lines, and the reason; nothing if it was admitted.
+#[derive(Drop)]
+struct Explained<A: Allocator> {
+    text: String<A>,
+    reason: Option<Reason>,
+}
+
+impl<A: Allocator> Explained<A> {
+    // Of an event that was admitted.
+    fn nothing(alloc: A) -> Explained<A> {
+        Explained {
+            text: String::new(alloc),
+            reason: None,
+        }
+    }
 }
 
 // Whether the answer is a refusal.
@@ -76,6 +95,7 @@ impl<A: Handle> RunTrace<A> {
             alloc,
             trace: Trace::new(alloc, model)?,
             texts: Vec::new(alloc),
+            reasons: Vec::new(alloc),
             refused: Vec::new(alloc),
             blocked: Vec::new(alloc),
             refused_steps: 0,
@@ -106,6 +126,11 @@ impl<A: Handle> RunTrace<A> {
     /// The words of each step.
     pub fn texts(&self) -> &[StepText<A>] {
         self.texts.as_slice()
+    }
+
+    /// Why the event of the step of this number, from 0, was refused.
+    pub fn reason(&self, number: usize) -> Option<Reason> {
+        *self.reasons.get(number)?
     }
 
     /// The steps with their words.
@@ -163,8 +188,9 @@ impl<A: Handle> RunTrace<A> {
             self.skipped = self.skipped.saturating_add(1);
             return Ok(());
         }
-        let reason = self.reason_for(t, place, answer)?;
-        self.texts.push(StepText::of(self.alloc, line, reason)?)?;
+        let Explained { text, reason } = self.reason_for(t, place, answer)?;
+        self.texts.push(StepText::of(self.alloc, line, text)?)?;
+        self.reasons.push(reason)?;
         Ok(())
     }
 
@@ -179,20 +205,19 @@ impl<A: Handle> RunTrace<A> {
         Ok(answer)
     }
 
-    // Why the event of the step at this place was refused, in lines; nothing if it was admitted. The transaction is noted
-    // as refused or not.
+    // Why the event of the step at this place was refused, if it was. The transaction is noted as refused or not.
     fn reason_for(
         &mut self,
         t: TxnId,
         place: usize,
         answer: Answer,
-    ) -> Result<String<A>, AllocError>
+    ) -> Result<Explained<A>, AllocError>
         ensures { self.new ≡ self.old }
     {
         match answer {
             Answer::Admitted { .. } => {
                 self.unblock(t);
-                Ok(String::new(self.alloc))
+                Ok(Explained::nothing(self.alloc))
             }
             Answer::Refused { rule, .. } => {
                 self.block(t, place)?;
@@ -238,12 +263,12 @@ impl<A: Handle> RunTrace<A> {
         Ok(())
     }
 
-    // The words of an earlier step that refused the same event as the one at this place, since the last admitted event.
-    fn refused_before(&self, place: usize) -> Option<&StepText<A>> {
+    // The place of an earlier step that refused the same event as the one at this place, since the last admitted event.
+    fn refused_before(&self, place: usize) -> Option<usize> {
         let event = &self.steps().get(place)?.event;
         for earlier in self.refused.iter() {
             if self.steps().get(*earlier)?.event.is_same(event) {
-                return self.texts.get(*earlier);
+                return Some(*earlier);
             }
         }
         None
@@ -271,36 +296,54 @@ impl<A: Handle> RunTrace<A> {
         may_look
     }
 
-    // Why this rule refuses the event of the step at this place, in lines. The step is remembered in case the event comes
-    // again.
-    fn reason_at(&mut self, place: usize, rule: Rule) -> Result<String<A>, AllocError>
+    // Why this rule refuses the event of the step at this place. The step is remembered in case the event comes again.
+    fn reason_at(&mut self, place: usize, rule: Rule) -> Result<Explained<A>, AllocError>
         ensures { self.new ≡ self.old }
     {
-        let prose = Prose::new(self.alloc);
-        if let Some(text) = self.refused_before(place) {
-            return prose.put(text.reason.as_str()).done();
+        if let Some(earlier) = self.refused_before(place) {
+            return self.as_before(earlier);
         }
         self.remember(place)?;
         let may_look = self.may_look(rule);
-        match self.steps().get(place) {
-            Some(step) => self.put_reason(prose, &step.event, may_look).done(),
-            None => prose.done(),
-        }
+        self.explained(place, may_look)
     }
 
-    // Adds why the event is refused, in lines.
-    fn put_reason(&self, prose: Prose<A>, event: &Event<A>, looks_for_waits: bool) -> Prose<A> {
+    // Why the event of the step at this place was refused, as it was explained.
+    fn as_before(&self, place: usize) -> Result<Explained<A>, AllocError> {
+        let prose = Prose::new(self.alloc);
+        let prose = match self.texts.get(place) {
+            Some(text) => prose.put(text.reason.as_str()),
+            None => prose,
+        };
+        Ok(Explained {
+            text: prose.done()?,
+            reason: self.reason(place),
+        })
+    }
+
+    // Why the machine refuses the event of the step at this place.
+    fn explained(&self, place: usize, looks_for_waits: bool) -> Result<Explained<A>, AllocError> {
+        let nothing = Explained::nothing(self.alloc);
+        let Some(step) = self.steps().get(place) else {
+            return Ok(nothing);
+        };
         let machine = self.machine();
+        let Some((reason, hope)) = why_and_hope(machine, &step.event)? else {
+            return Ok(nothing);
+        };
         let refused = Refused {
             machine,
             lines: self.lines(),
-            event,
+            event: &step.event,
         };
-        match why_and_hope(machine, event) {
-            Ok(Some((reason, hope))) => refused.put_reason(prose, looks_for_waits, &reason, hope),
-            Ok(None) => prose,
-            Err(_) => prose.fail(),
-        }
+        let prose = Prose::new(self.alloc);
+        let text = refused
+            .put_reason(prose, looks_for_waits, &reason, hope)
+            .done()?;
+        Ok(Explained {
+            text,
+            reason: Some(reason),
+        })
     }
 
     /// Adds the operation that a step did, and the edges that it formed.

@@ -1,2 +1,3 @@
 pub mod CommandReplies
+pub mod Pictures
 pub mod Sessions

@@ -8,6 +8,7 @@
 
 mod args;
 mod notes;
+mod pictured;
 mod remarks;
 mod replies;
 mod tool;

@@ -1,6 +1,10 @@
 //! The words of a session.
 
+ghost use Rattle.std.specs.Prelude.{IfOk};
+ghost use Rattle.acta_shell.specs.Pictures.{ShowsHistory};
+
 use crate::notes::Notes;
+use crate::pictured::{kept_lines, with_lines};
 use crate::remarks::{
     conflicts_remark, edges_remark, held_remark, owed_remark, refusal_remark, status_remark,
 };
@@ -49,8 +53,10 @@ impl<A: Handle> ShellWords<A> {
         }
     }
 
-    // The picture of the history.
-    fn picture(&self, machine: &Machine<A>) -> Result<Vec<u8, A>, AllocError> {
+    // The picture of the history, and below it the events unless the picture shows them all.
+    fn picture(&self, machine: &Machine<A>) -> Result<Vec<u8, A>, AllocError>
+        ensures { IfOk result (λ text. ShowsHistory machine.now text.items) }
+    {
         let alloc = self.notes.allocator();
         let mut lines = Vec::new(alloc);
         push_event_lines(alloc, machine, &mut lines)?;
@@ -60,7 +66,8 @@ impl<A: Handle> ShellWords<A> {
         };
         let model = machine.model().copy()?;
         let report = draw_run(alloc, &drawing, self.screen, model, lines.as_slice())?;
-        Ok(report.text)
+        let kept = kept_lines(alloc, machine)?;
+        with_lines(alloc, report.text, kept.as_slice())
     }
 }
 

@@ -6,8 +6,8 @@ use Rattle.acta_table.specs.declared.model.Parts.{Parts}
 use Rattle.acta_machine.specs.Reasons.{refusal_of, IsSo}
 use Rattle.acta_machine.specs.Rules.{dependency}
 use Rattle.acta_machine.specs.Summary.{Summary}
-use Rattle.acta_machine.specs.declared.broken.Broken.{Broken}
-use Rattle.acta_machine.specs.declared.broken.Broken.TheVariants.{For, ByEdges}
+use Rattle.acta_machine.specs.declared.lowest.Broken.{Broken}
+use Rattle.acta_machine.specs.declared.lowest.Broken.TheVariants.{For, ByEdges}
 
 -- the broken rule, with the number that the rule names
 abbrev pub rule_of : Broken → Refusal

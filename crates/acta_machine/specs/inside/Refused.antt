@@ -3,7 +3,7 @@ use Rattle.std.specs.Prelude.{◌≡◌, List, Some}
 use Rattle.std.specs.List.{All}
 use Rattle.acta_table.specs.declared.event.Event.{Event}
 use Rattle.acta_table.specs.declared.model.Parts.{Parts}
-use Rattle.acta_machine.specs.declared.broken.Broken.{Broken}
+use Rattle.acta_machine.specs.declared.lowest.Broken.{Broken}
 use Rattle.acta_machine.specs.declared.refused.Refused.{Refused}
 use Rattle.acta_machine.specs.inside.Broken.{rule_of, IsBroken}
 use Rattle.acta_machine.specs.Rules.{lowest_broken}

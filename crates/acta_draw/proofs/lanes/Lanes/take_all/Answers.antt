@@ -1,0 +1,34 @@
+use Rattle.std.proofs.Common.{◌≡◌, ◌∷◌, ◌+◌, ◌∙◌, ap, sym, drop, length, map, arith, ℕ, List}
+use Rattle.std.proofs.lemmas.List.{drop-map, drop_more}
+use Rattle.std.specs.Vec.Iter.{into_iter_items}
+use Rattle.acta_io.specs.declared.input.NonBlankLine.{NonBlankLine}
+use Rattle.acta_prose.proofs.Noted.{ended, one_more}
+use Rattle.acta_draw.proofs.lanes.Lanes.take_all.Goals as goal
+
+pub loop-event-preserved : goal.loop-event-preserved
+loop-event-preserved g c =
+    let at = c.loop-event.next in
+    let lines = c.args.lines.now in
+    let line = c.in-Some-get.line.now in
+    let number = λ (one : NonBlankLine). one.line in
+    let found = c.in-Some-get.ensures.lookup.3 in
+    let cut : drop at lines ≡ line ∷ drop (at + 1) lines = drop_more lines at line found.0 ∙ ap (λ (one : NonBlankLine). one ∷ drop (at + 1) lines) (sym (found.1 line)) in
+    let numbers : drop at (map number lines) ≡ number line ∷ drop (at + 1) (map number lines) =
+    drop-map number at lines ∙ ap (map number) cut ∙ ap (λ (others : List ℕ). number line ∷ others) (sym (drop-map number (at + 1) lines))
+    in
+    let steps = c.in-Some.ensures.steps in
+    let long = c.loop-event.invariant.long in
+    let shorter = ap length steps.0 in
+    let less = steps.1 in
+    record {
+      run = λ all. one_more c.loop-event.self.run c.take.new.self _ (number line) c.in-Some.event _ _ _ _ numbers steps.0 c.in_ok-take.ensures (c.loop-event.invariant.run all);
+      long = omega (arith, long, shorter, less);
+      places = c.loop-event.invariant.places;
+    }
+
+pub returns-clause-run : goal.returns-clause-run
+returns-clause-run g c =
+    λ all.
+    let long = c.loop-event.invariant.long in
+    let none = c.in-None.ensures.steps.0 in
+    ended c.loop-event.self.run _ _ (into_iter_items c.loop-event.event-iterator) (c.loop-event.invariant.run all) (omega (arith, long, none))
