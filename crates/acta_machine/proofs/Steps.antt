@@ -42,6 +42,7 @@ use Rattle.acta_axioms.specs.Faults.{has_number, ill_formed, lacks_kind, cannot_
 use Rattle.acta_axioms.specs.History.{course, class_of}
 use Rattle.acta_axioms.specs.Operations.{Operation, heir}
 use Rattle.acta_axioms.specs.Claims.{MeetsAxioms, IsOrderly, status_at}
+use Rattle.acta_values.specs.Conflicts.{is_well_formed}
 use Rattle.acta_axioms.specs.Values as by_places
 use Rattle.acta_axioms.proofs.EdgeGrowth.{EndsInProgress, edges-push, apart-push, course-orderly-push, orderly-none}
 use Rattle.acta_axioms.proofs.Growth.{class_in, class_of-push, parent_of-push, started_within, parent_earlier}
@@ -114,7 +115,7 @@ and_false true n = refl
 and_false false n = refl
 
 -- the return that is due is not wrong
-due_return : {A : Type 0} (m : Parts A) (h : List (Kept A)) (object n : ℕ) (op : Op) → when (by_places.is_well_formed m object op && not (is_due (by_places.return_due m h object op) (by_places.return_due m h object op))) n ≡ []
+due_return : {A : Type 0} (m : Parts A) (h : List (Kept A)) (object n : ℕ) (op : Op) → when (is_well_formed m object op && not (is_due (by_places.return_due m h object op) (by_places.return_due m h object op))) n ≡ []
 due_return m h object n op = of (kind_at m object)
   where
     of : (k : Option Kind) → when (option_map_or (λ kind. suits kind op) k false && not (is_due (option_map (λ kind. Rattle.acta_objects.specs.Objects.returned (by_places.value m h object kind) op) k) (option_map (λ kind. Rattle.acta_objects.specs.Objects.returned (by_places.value m h object kind) op) k))) n ≡ []
