@@ -80,12 +80,22 @@ impl<'a, A: Handle> Page<'a, A> {
         }
     }
 
-    // Puts the head of an arrow beside the lane to which it goes.
-    fn put_head(&mut self, from: usize, to: usize, ink: Ink) {
+    // Puts the head of an arrow beside the lane to which it goes, or beside the number of so many digits that follows the lane.
+    fn put_head(&mut self, from: usize, to: usize, number: usize, ink: Ink) {
         if from < to {
             self.canvas.put(to.saturating_sub(1), '>', ink);
         } else {
-            self.canvas.put(to.saturating_add(1), '<', ink);
+            let end = to.saturating_add(number).saturating_add(1);
+            self.canvas.put(end, '<', ink);
+        }
+    }
+
+    // How many digits follow the mark of the partner.
+    fn number_beside(&self, partner: Marked) -> usize {
+        if partner.mark == Mark::Start && self.selection.is_reused {
+            digits(usize::from(partner.txn.0))
+        } else {
+            0
         }
     }
 
@@ -102,7 +112,8 @@ impl<'a, A: Handle> Page<'a, A> {
             self.canvas.put(to, '*', Ink::Plain);
         }
         if let (Some(from), Some(to)) = (self.column(from), to) {
-            self.put_head(from, to, ink);
+            let number = self.number_beside(partner);
+            self.put_head(from, to, number, ink);
             self.canvas.fill(from.min(to), from.max(to), glyph, ink);
         }
     }
@@ -116,7 +127,7 @@ impl<'a, A: Handle> Page<'a, A> {
         let mut right = from;
         for edge in row.formed {
             if let Some(to) = self.column(edge.i) {
-                self.put_head(from, to, Ink::Edge);
+                self.put_head(from, to, 0, Ink::Edge);
                 left = left.min(to);
                 right = right.max(to);
             }
