@@ -79,6 +79,14 @@ impl<A: Handle> Columns<A> {
         self.note(t, column, last);
     }
 
+    /// Whether the lane of the transaction ends before the row.
+    pub fn is_over(&self, t: TxnId, row: usize) -> bool {
+        match self.lanes.get(usize::from(t.0)) {
+            Some(Some(lane)) => lane.last < row,
+            _ => false,
+        }
+    }
+
     /// The transaction whose lane is in the column of this one at a row, or the next one there: the first from this one on whose
     /// last row isn't before the row.
     pub fn at(&self, t: TxnId, row: usize) -> TxnId {

@@ -147,8 +147,9 @@ impl<'a, A: Handle> Drawn<'a, A> {
         put!(out; END_OF_TEXT, END_OF_GROUP)
     }
 
-    // Adds the heads of the columns on a band with this lower end, which covers the lanes.
-    fn put_heads(&self, out: Prose<A>, heads: &[TxnId], end: usize) -> Prose<A> {
+    // Adds the heads of the columns on a band with this lower end, which covers the lanes. A column whose last lane ends before
+    // the row below the band has no head.
+    fn put_heads(&self, out: Prose<A>, heads: &[TxnId], end: usize, row: usize) -> Prose<A> {
         let top = end.saturating_sub(HEADS);
         let y = top.saturating_add(28);
         let width = self.layout.width.saturating_sub(2 * MARGIN);
@@ -157,7 +158,9 @@ impl<'a, A: Handle> Drawn<'a, A> {
         let out = put_text(out, "place", PLACE_X, y, "place");
         let mut out = put_text(out, "note", self.layout.words_x, y, "event");
         for (column, t) in heads.iter().enumerate() {
-            out = self.put_head(out, *t, self.layout.lane_x(column), y);
+            if !self.selection.columns.is_over(*t, row) {
+                out = self.put_head(out, *t, self.layout.lane_x(column), y);
+            }
         }
         out
     }
@@ -165,11 +168,12 @@ impl<'a, A: Handle> Drawn<'a, A> {
     // Adds the heads above the rows that have some.
     fn put_all_heads(&self, mut out: Prose<A>) -> Prose<A> {
         if self.layout.boxes.is_empty() {
-            return self.put_heads(out, self.selection.columns.heads.as_slice(), HEADS);
+            return self.put_heads(out, self.selection.columns.heads.as_slice(), HEADS, 0);
         }
         for row_box in self.layout.boxes.iter() {
             if !row_box.heads.is_empty() {
-                out = self.put_heads(out, row_box.heads.as_slice(), row_box.top);
+                let heads = row_box.heads.as_slice();
+                out = self.put_heads(out, heads, row_box.top, row_box.number);
             }
         }
         out

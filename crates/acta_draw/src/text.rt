@@ -222,12 +222,14 @@ impl<'a, A: Handle> Page<'a, A> {
         text
     }
 
-    // Adds the line of the numbers of the lanes.
-    fn put_header(&mut self, text: Prose<A>) -> Prose<A> {
+    // Adds the line of the numbers of the lanes above the row. A column whose last lane ends before the row has no number.
+    fn put_header(&mut self, text: Prose<A>, row: usize) -> Prose<A> {
         self.canvas.clear();
         for (lane, t) in self.heads.iter().enumerate() {
-            let column = lane.saturating_mul(self.layout.lane);
-            self.canvas.put_number(column, u32::from(t.0), Ink::Plain);
+            if !self.selection.columns.is_over(*t, row) {
+                let column = lane.saturating_mul(self.layout.lane);
+                self.canvas.put_number(column, u32::from(t.0), Ink::Plain);
+            }
         }
         self.put_front(text, "place").put("event\n")
     }
@@ -296,14 +298,14 @@ impl<'a, A: Handle> Page<'a, A> {
         for (count, number) in selection.rows.iter().enumerate() {
             selection.pass(&mut self.heads, *number);
             if count % HEADER_ROWS == 0 {
-                text = self.put_header(text);
+                text = self.put_header(text, *number);
             }
             if let Some(row) = lanes.row(*number) {
                 text = self.put_line(text, &row);
             }
         }
         if selection.rows.is_empty() {
-            text = self.put_header(text);
+            text = self.put_header(text, 0);
         }
         self.put_debts(text)
     }
