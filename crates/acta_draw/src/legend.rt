@@ -32,11 +32,13 @@ pub struct Entry {
     meaning: &'static str,
 }
 
-const FIRST: [(Sign, &str); 5] = [
+const FIRST: [(Sign, &str); 7] = [
     (Sign::Mark(Mark::Start), "starts"),
     (Sign::Mark(Mark::Committed), "commits"),
     (Sign::Mark(Mark::Aborted), "aborts"),
     (Sign::Mark(Mark::Joined), "joins another"),
+    (Sign::Mark(Mark::Point), "acts on another"),
+    (Sign::Mark(Mark::Met), "is acted on"),
     (Sign::Mark(Mark::Refused), "is refused"),
 ];
 
@@ -90,9 +92,10 @@ pub fn height(entries: &[Entry], width: usize) -> usize {
 // Whether the sign occurs in the row.
 fn occurs_in<A: Handle>(sign: Sign, row: &Row<'_, A>, row_box: &RowBox<A>) -> bool {
     let tie = row.figure.partner.map(|(_, tie)| tie);
+    let met = row.figure.partner.map(|(partner, _)| partner.mark);
     match sign {
         Sign::Mark(Mark::Start) => row.step.began().is_some(),
-        Sign::Mark(mark) => row.figure.actor.mark == mark,
+        Sign::Mark(mark) => row.figure.actor.mark == mark || met == Some(mark),
         Sign::Operation(notation, _) => match row.step.event {
             Event::Operate(_, _, op) => row.step.is_admitted() && notation_of(op) == notation,
             _ => false,
