@@ -16,6 +16,11 @@ const FOOT: usize = 9;
 // The most height of a line. For a blocker farther up there is only the lower end of a line.
 const MOST_HEIGHT: usize = 1_200;
 
+// How far that end goes to the side and up. It stays in its row, since the heads above a row cover what is behind them.
+const SIDE: usize = 20;
+
+const UP: usize = 6;
+
 /// A line from a refused event to a blocker of it.
 #[derive(Clone, Copy)]
 pub struct Block {
@@ -91,9 +96,9 @@ fn near(from: (usize, usize), to: (usize, usize)) -> (usize, usize) {
     if y.saturating_sub(to_y) <= MOST_HEIGHT {
         to
     } else if to_x < x {
-        (x.saturating_sub(20), y.saturating_sub(12))
+        (x.saturating_sub(SIDE), y.saturating_sub(UP))
     } else {
-        (x.saturating_add(20), y.saturating_sub(12))
+        (x.saturating_add(SIDE), y.saturating_sub(UP))
     }
 }
 
@@ -150,10 +155,13 @@ pub fn put_block<A: Handle>(
     let out = put_titled(out, title.as_str());
     let out = put!(out; "<path class=\"block\" d=\"M", x, " ", y);
     let out = if x.abs_diff(to_x) <= FOOT {
+        // (a short line has few marks to go round)
+        let height = y.abs_diff(to_y);
+        let wide = (gap.saturating_mul(5) / 8).min(height.saturating_mul(2));
         let side = if to_x < x {
-            x.saturating_sub(gap.saturating_mul(2) / 5)
+            x.saturating_sub(wide)
         } else {
-            x.saturating_add(gap.saturating_mul(2) / 5)
+            x.saturating_add(wide)
         };
         put!(out; "C", side, " ", y, " ", side, " ", to_y, " ", to_x, " ", to_y)
     } else {
