@@ -23,17 +23,22 @@ const MOST_ARROWS: usize = 200;
 // The most characters of a label.
 const MOST_OF_LABEL: usize = 28;
 
-// The height of the lowest arc, and how much higher each next one is. An arc to the left is higher than one to the right.
+// The height of the lowest arc, and how much higher each next one is: at most, and at least where the arcs are many.
 const LOWEST: usize = 32;
 
 const NEXT: usize = 48;
 
-const LEFT: usize = 24;
+const LEAST_NEXT: usize = 28;
 
-// How much higher the highest arc may be than the lowest, and the height of a label.
-const MOST_HEIGHT: usize = 960;
+// How much higher the highest arc may be than the lowest: before two of them come nearer than the least, and after that.
+const USUAL_HEIGHT: usize = 960;
 
+const MOST_HEIGHT: usize = 2_800;
+
+// The height of a label, and of the box behind it.
 const LABEL: usize = 16;
+
+const BACK: usize = 12;
 
 // The height of a transaction, and of a line of words.
 const NODE: usize = 24;
@@ -91,7 +96,20 @@ impl<A: Handle> Arcs<A> {
 
     // How much higher an arc is than one of the next shorter span.
     fn next(&self) -> usize {
-        NEXT.min(MOST_HEIGHT / self.spans.len().max(1))
+        let usual = USUAL_HEIGHT / self.spans.len().max(1);
+        let most = MOST_HEIGHT / self.spans.len().max(1);
+        usual.min(NEXT).max(LEAST_NEXT).min(most)
+    }
+
+    // How much higher an arc to the left is than one to the right. Its height is midway between those of two arcs to the right,
+    // so that no label covers another.
+    fn left(&self) -> usize {
+        let next = self.next();
+        if next < NEXT {
+            next.saturating_add(next / 2).max(NEXT / 2)
+        } else {
+            NEXT / 2
+        }
     }
 
     // How far the arc goes from the transactions. Of two that go equally far no label covers the other's.
@@ -100,7 +118,7 @@ impl<A: Handle> Arcs<A> {
         let level = self.spans.as_slice().partition_point(|one| *one < span);
         let height = LOWEST.saturating_add(level.saturating_mul(self.next()));
         if arc.to < arc.from {
-            height.saturating_add(LEFT)
+            height.saturating_add(self.left())
         } else {
             height
         }
@@ -118,7 +136,8 @@ impl<A: Handle> Arcs<A> {
                     .saturating_sub(1)
                     .saturating_mul(self.next()),
             )
-            .saturating_add(LEFT + LABEL)
+            .saturating_add(self.left())
+            .saturating_add(LABEL)
     }
 
     // The least distance of two transactions with room for the labels.
@@ -255,20 +274,24 @@ impl<'a, A: Handle> Sheet<'a, A> {
         put!(out; "\" marker-end=\"url(#acta-draw-", arcs.head(), ")\"/>", END_OF_GROUP)
     }
 
-    // Adds the label of an arc, at its top or its bottom.
+    // Adds the label of an arc, at its top or its bottom, on a box that covers the arcs behind it.
     fn put_label(&self, out: Prose<A>, arcs: &Arcs<A>, arc: &Arc<A>) -> Prose<A> {
         let height = arcs.height(arc);
         let (left, right) = self.ends(arc);
         let middle = left.saturating_add(right) / 2;
         let (class, y) = if arcs.is_above {
             let top = self.base.saturating_sub(NODE / 2).saturating_sub(height);
-            ("label why arc", top.saturating_sub(7))
+            ("label why", top.saturating_sub(7))
         } else {
             let bottom = self.base.saturating_add(NODE / 2).saturating_add(height);
-            ("label arc", bottom.saturating_add(13))
+            ("label", bottom.saturating_add(13))
         };
+        let label = arc.label.as_str();
+        // (no wider than the label, so that it doesn't cut the sides of the arc round it)
+        let size = (label_width(label).saturating_mul(7) / 8, BACK);
         let out = put_titled(out, arc.title.as_str());
-        put_text(out, class, middle, y, arc.label.as_str()).put(END_OF_GROUP)
+        let out = put_box(out, "back", (middle, y.saturating_sub(4)), size, 2);
+        put_text(out, class, middle, y, label).put(END_OF_GROUP)
     }
 
     // Adds the arcs of one side, and over them their labels.

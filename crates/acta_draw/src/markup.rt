@@ -17,7 +17,7 @@ pub const STYLE: &str = "\
 .acta-draw .on{fill:#fff}
 .acta-draw .label{font-size:11px;fill:#6639ba;text-anchor:middle;paint-order:stroke;stroke:#fff;stroke-width:3px}
 .acta-draw .why{fill:#b31d28}
-.acta-draw .arc{stroke-width:6px;stroke-linejoin:round}
+.acta-draw .back{fill:#fff}
 .acta-draw line,.acta-draw path{fill:none}
 .acta-draw .rule{stroke:#eef1f4}
 .acta-draw .guide{stroke:#e6eaef;stroke-dasharray:2 4}
