@@ -104,7 +104,7 @@ impl<A: Handle> Lanes<A> {
         read: Input<'_, Event<A>, A>,
         last: Option<u32>,
     ) -> Result<Lanes<A>, AllocError>
-        ensures run { last ≡ None → IfOk result (λ lanes. lanes.run ≡ noted_all (not_begun model) (map (λ line. line.line) read.lines.items) read.parsed.items) }
+        ensures run { last ≡ None → IfOk result (λ lanes. lanes.run ≡ noted_all (not_begun model) (map (λ line. line.line) read.entry.lines.items) read.entry.parsed.items) }
         ensures places { IfOk result (λ lanes. lanes.places.items ≡ places_from 0 lanes.run.steps) }
     {
         let Input {
