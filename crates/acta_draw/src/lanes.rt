@@ -1,7 +1,7 @@
 //! The run of an input as lanes and rows: a row for each event with its answer, what it formed and why it was refused,
 //! and for each transaction from which row to which its lane goes.
 
-ghost use Rattle.std.specs.Prelude.{◌≡◌, ◌++◌, false, map, slice_get, None, Some, IfOk, IfSome, OnOk};
+ghost use Rattle.std.specs.Prelude.{◌≡◌, false, map, slice_get, None, Some, IfOk, IfSome, OnOk};
 ghost use Rattle.acta_prose.specs.Runs.{noted_all};
 ghost use Rattle.acta_trace.specs.Traces.{not_begun};
 ghost use Rattle.acta_draw.specs.Rows.{place_after, places_from, returned};
@@ -10,7 +10,7 @@ use crate::blockers::{Blocker, Blockers, blockers_of};
 use crate::marks::{Figure, figure_of};
 use acta_hope::heir;
 use acta_io::{BadLine, Input, NonBlankLine};
-use acta_machine::Handle;
+use acta_machine::{Handle, Machine};
 use acta_prose::{RunTrace, StepText};
 use acta_table::{Answer, Edge, Event, Model, Owed, Ret, TxnId};
 use acta_trace::{Step, Steps};
@@ -83,6 +83,61 @@ fn place_after(last: u32, answer: &Answer) -> u32
     }
 }
 
+// The place of the event of each step.
+fn places_of<A: Handle>(alloc: A, steps: &[Step<A>]) -> Result<Vec<u32, A>, AllocError>
+    ensures { IfOk result (λ places. places.items ≡ places_from 0 steps.now) }
+{
+    let mut places = Vec::new(alloc);
+    let mut last = 0u32;
+    for step in steps {
+        let place = place_after(last, &step.answer);
+        if step.is_admitted() {
+            last = place;
+        }
+        places.push(place)?;
+    }
+    Ok(places)
+}
+
+// Whether the event would have a place after the last one.
+fn is_after<A: Handle>(
+    machine: &Machine<A>,
+    last: Option<u32>,
+    event: &Event<A>,
+) -> Result<bool, AllocError>
+    ensures { last ≡ None → IfOk result (λ is_after. is_after ≡ false) }
+{
+    match last {
+        Some(last) if machine.history().len() >= last as usize => {
+            Ok(machine.why(event)?.is_none())
+        }
+        _ => Ok(false),
+    }
+}
+
+// Takes the events, each with its line, up to the last place.
+fn take_all<A: Handle>(
+    run: &mut RunTrace<A>,
+    events: Vec<Event<A>, A>,
+    lines: &[NonBlankLine<'_>],
+    last: Option<u32>,
+) -> Result<(), AllocError>
+    ensures { last ≡ None → OnOk result (run.new ≡ noted_all run.old (map (λ line. line.line) lines.now) events.items) }
+{
+    let mut next = 0;
+    for event in events {
+        let Some(line) = lines.get(next) else {
+            return Ok(());
+        };
+        if is_after(run.machine(), last, &event)? {
+            return Ok(());
+        }
+        run.take(*line, event)?;
+        next += 1;
+    }
+    Ok(())
+}
+
 /// A run of an input, as what is drawn of it.
 #[derive(Drop)]
 pub struct Lanes<A: Handle> {
@@ -112,71 +167,20 @@ impl<A: Handle> Lanes<A> {
             lines,
             stop,
         } = read;
-        let mut lanes = Lanes {
-            run: RunTrace::new(alloc, model)?,
-            places: Vec::new(alloc),
-            owed: Vec::new(alloc),
-            stop,
+        let mut run = RunTrace::new(alloc, model)?;
+        take_all(&mut run, parsed, lines.as_slice(), last)?;
+        let places = places_of(alloc, run.steps())?;
+        let owed = if stop.is_none() {
+            run.machine().owed()?
+        } else {
+            Vec::new(alloc)
         };
-        lanes.take_all(parsed, lines.as_slice(), last)?;
-        lanes.note_places()?;
-        if lanes.stop.is_none() {
-            lanes.owed = lanes.run.machine().owed()?;
-        }
-        Ok(lanes)
-    }
-
-    // Takes the events, each with its line, up to the last place.
-    fn take_all(
-        &mut self,
-        events: Vec<Event<A>, A>,
-        lines: &[NonBlankLine<'_>],
-        last: Option<u32>,
-    ) -> Result<(), AllocError>
-        ensures run { last ≡ None → OnOk result (self.new.run ≡ noted_all self.old.run (map (λ line. line.line) lines.now) events.items) }
-        ensures places { self.new.places ≡ self.old.places }
-    {
-        let mut next = 0;
-        for event in events {
-            let Some(line) = lines.get(next) else {
-                return Ok(());
-            };
-            if self.is_after(last, &event)? {
-                return Ok(());
-            }
-            self.run.take(*line, event)?;
-            next += 1;
-        }
-        Ok(())
-    }
-
-    // Whether the event would have a place after the last one.
-    fn is_after(&self, last: Option<u32>, event: &Event<A>) -> Result<bool, AllocError>
-        ensures { last ≡ None → IfOk result (λ is_after. is_after ≡ false) }
-    {
-        let machine = self.run.machine();
-        match last {
-            Some(last) if machine.history().len() >= last as usize => {
-                Ok(machine.why(event)?.is_none())
-            }
-            _ => Ok(false),
-        }
-    }
-
-    // Notes the place of each row.
-    fn note_places(&mut self) -> Result<(), AllocError>
-        ensures run { self.new.run ≡ self.old.run }
-        ensures places { OnOk result (self.new.places.items ≡ self.old.places.items ++ places_from 0 self.old.run.steps) }
-    {
-        let mut last = 0u32;
-        for step in self.run.steps() {
-            let place = place_after(last, &step.answer);
-            if step.is_admitted() {
-                last = place;
-            }
-            self.places.push(place)?;
-        }
-        Ok(())
+        Ok(Lanes {
+            run,
+            places,
+            owed,
+            stop,
+        })
     }
 
     /// The blockers of the event of a row.

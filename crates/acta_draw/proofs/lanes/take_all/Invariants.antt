@@ -3,15 +3,14 @@ use Rattle.std.specs.Prelude.{None}
 use Rattle.std.specs.Vec.Iter.{into_iter_items, into_iter_len}
 use Rattle.acta_io.specs.declared.input.NonBlankLine.{NonBlankLine}
 use Rattle.acta_prose.specs.Runs.{noted_all}
-use Rattle.acta_draw.proofs.lanes.Lanes.take_all.Given as goal
+use Rattle.acta_draw.proofs.lanes.take_all.Given as goal
 
--- without a last place, the run with the rest of the events, each with its line, is the run with all; the places stay
+-- without a last place, the run with the rest of the events, each with its line, is the run with all
 abbrev pub invariant-loop-event : goal.invariant-loop-event
 invariant-loop-event g l = record {
   run :
       l.last ≡ None
-      → noted_all l.self.run (drop l.next (map (λ (line : NonBlankLine). line.line) l.lines)) (into_iter_items l.event-iterator)
-      ≡ noted_all l.fn.self.run (map (λ (line : NonBlankLine). line.line) l.lines) l.fn.events.items;
+      → noted_all l.run (drop l.next (map (λ (line : NonBlankLine). line.line) l.lines)) (into_iter_items l.event-iterator)
+      ≡ noted_all l.fn.run (map (λ (line : NonBlankLine). line.line) l.lines) l.fn.events.items;
   long : into_iter_len l.event-iterator ≡ length (into_iter_items l.event-iterator);
-  places : l.self.places ≡ l.fn.self.places;
 }

@@ -3,7 +3,7 @@ use Rattle.std.proofs.lemmas.List.{drop-map, drop_more}
 use Rattle.std.specs.Vec.Iter.{into_iter_items}
 use Rattle.acta_io.specs.declared.input.NonBlankLine.{NonBlankLine}
 use Rattle.acta_prose.proofs.Noted.{ended, one_more}
-use Rattle.acta_draw.proofs.lanes.Lanes.take_all.Goals as goal
+use Rattle.acta_draw.proofs.lanes.take_all.Goals as goal
 
 pub loop-event-preserved : goal.loop-event-preserved
 loop-event-preserved g c =
@@ -21,14 +21,13 @@ loop-event-preserved g c =
     let shorter = ap length steps.0 in
     let less = steps.1 in
     record {
-      run = λ all. one_more c.loop-event.self.run c.take.new.self _ (number line) c.in-Some.event _ _ _ _ numbers steps.0 c.in_ok-take.ensures (c.loop-event.invariant.run all);
+      run = λ all. one_more c.loop-event.run c.take.new.self _ (number line) c.in-Some.event _ _ _ _ numbers steps.0 c.in_ok-take.ensures (c.loop-event.invariant.run all);
       long = omega (arith, long, shorter, less);
-      places = c.loop-event.invariant.places;
     }
 
-pub returns-clause-run : goal.returns-clause-run
-returns-clause-run g c =
+pub returns : goal.returns
+returns g c =
     λ all.
     let long = c.loop-event.invariant.long in
     let none = c.in-None.ensures.steps.0 in
-    ended c.loop-event.self.run _ _ (into_iter_items c.loop-event.event-iterator) (c.loop-event.invariant.run all) (omega (arith, long, none))
+    ended c.loop-event.run _ _ (into_iter_items c.loop-event.event-iterator) (c.loop-event.invariant.run all) (omega (arith, long, none))
