@@ -4,7 +4,7 @@
 ghost use Rattle.std.specs.Prelude.{◌≡◌, false, map, slice_get, None, Some, IfOk, IfSome, OnOk};
 ghost use Rattle.acta_prose.specs.Runs.{noted_all};
 ghost use Rattle.acta_trace.specs.Traces.{not_begun};
-ghost use Rattle.acta_draw.specs.Rows.{place_after, places_from, returned};
+ghost use Rattle.acta_draw.specs.Rows.{last_place, place_after, places_from, returned};
 
 use crate::blockers::{Blocker, Blockers, blockers_of};
 use crate::marks::{Figure, figure_of};
@@ -83,6 +83,16 @@ fn place_after(last: u32, answer: &Answer) -> u32
     }
 }
 
+// The last place after an event, where the last place before it is this one.
+fn last_place(last: u32, answer: &Answer) -> u32
+    ensures { result ≡ last_place last answer.now }
+{
+    match *answer {
+        Answer::Admitted { place, .. } => place,
+        Answer::Refused { .. } => last,
+    }
+}
+
 // The place of the event of each step.
 fn places_of<A: Handle>(alloc: A, steps: &[Step<A>]) -> Result<Vec<u32, A>, AllocError>
     ensures { IfOk result (λ places. places.items ≡ places_from 0 steps.now) }
@@ -90,11 +100,8 @@ fn places_of<A: Handle>(alloc: A, steps: &[Step<A>]) -> Result<Vec<u32, A>, Allo
     let mut places = Vec::new(alloc);
     let mut last = 0u32;
     for step in steps {
-        let place = place_after(last, &step.answer);
-        if step.is_admitted() {
-            last = place;
-        }
-        places.push(place)?;
+        places.push(place_after(last, &step.answer))?;
+        last = last_place(last, &step.answer);
     }
     Ok(places)
 }
