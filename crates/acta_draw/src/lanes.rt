@@ -88,7 +88,7 @@ fn last_place(last: u32, answer: &Answer) -> u32
     ensures { result ≡ last_place last answer.now }
 {
     match *answer {
-        Answer::Admitted { place, .. } => place,
+        Answer::Admitted { place: next, .. } => next,
         Answer::Refused { .. } => last,
     }
 }

@@ -4,7 +4,7 @@
 ghost use Rattle.std.specs.Prelude.{◌≡◌, ◌++◌, ◌∷◌, true, codes, decimal, List, ℕ, map, IfOk, IfSome, OnOk};
 ghost use Rattle.acta_script.specs.Writing.{kept_line};
 ghost use Rattle.acta_words.specs.Text.{words_of};
-ghost use Rattle.acta_shell.specs.Pictures.{HasInOrder, Leads, numbered_from, numbered_line, pieces_of, pieces_from};
+ghost use Rattle.acta_shell.specs.Pictures.{HasInOrder, Leads, numbered_from, numbered_line, pieces_of, pieces_from, ShowsHistory};
 
 use acta_machine::{Handle, Machine};
 use acta_script::write_kept;
@@ -106,11 +106,8 @@ fn push_all<A: Allocator>(text: &mut Vec<u8, A>, lines: &[Vec<u8, A>]) -> Result
     Ok(())
 }
 
-/// The kept lines of the history.
-pub(crate) fn kept_lines<A: Handle>(
-    alloc: A,
-    machine: &Machine<A>,
-) -> Result<Vec<Vec<u8, A>, A>, AllocError>
+// The kept lines of the history.
+fn kept_lines<A: Handle>(alloc: A, machine: &Machine<A>) -> Result<Vec<Vec<u8, A>, A>, AllocError>
     ensures { IfOk result (λ lines. map (λ line. line.items) lines.items ≡ map (kept_line machine.now.model) machine.now.kept) }
 {
     let mut lines = Vec::new(alloc);
@@ -120,8 +117,8 @@ pub(crate) fn kept_lines<A: Handle>(
     Ok(lines)
 }
 
-/// The picture, and below it the lines with their numbers, unless the picture shows them all.
-pub(crate) fn with_lines<A: Allocator + Copy>(
+// The picture, and below it the lines with their numbers, unless the picture shows them all.
+fn with_lines<A: Allocator + Copy>(
     alloc: A,
     picture: Vec<u8, A>,
     lines: &[Vec<u8, A>],
@@ -135,4 +132,16 @@ pub(crate) fn with_lines<A: Allocator + Copy>(
     text.extend_from_slice(b"not every event fits into the picture; all events:\n")?;
     push_all(&mut text, lines)?;
     Ok(text)
+}
+
+/// The picture of the history, and below it the events with their places, unless the picture shows them all.
+pub(crate) fn with_history<A: Handle>(
+    alloc: A,
+    machine: &Machine<A>,
+    picture: Vec<u8, A>,
+) -> Result<Vec<u8, A>, AllocError>
+    ensures { IfOk result (λ text. ShowsHistory machine.now text.items) }
+{
+    let lines = kept_lines(alloc, machine)?;
+    with_lines(alloc, picture, lines.as_slice())
 }

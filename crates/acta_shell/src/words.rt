@@ -4,7 +4,7 @@ ghost use Rattle.std.specs.Prelude.{IfOk};
 ghost use Rattle.acta_shell.specs.Pictures.{ShowsHistory};
 
 use crate::notes::Notes;
-use crate::pictured::{kept_lines, with_lines};
+use crate::pictured::with_history;
 use crate::remarks::{
     conflicts_remark, edges_remark, held_remark, owed_remark, refusal_remark, status_remark,
 };
@@ -66,8 +66,7 @@ impl<A: Handle> ShellWords<A> {
         };
         let model = machine.model().copy()?;
         let report = draw_run(alloc, &drawing, self.screen, model, lines.as_slice())?;
-        let kept = kept_lines(alloc, machine)?;
-        with_lines(alloc, report.text, kept.as_slice())
+        with_history(alloc, machine, report.text)
     }
 }
 
