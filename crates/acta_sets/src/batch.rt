@@ -37,10 +37,10 @@ impl Batch {
 
 /// Moves the operations of the batch from `t`'s counts to `u`'s.
 pub(crate) fn settle<A: Allocator + Copy>(counts: &mut Counts<A>, batch: Batch, t: TxnId, u: TxnId)
-    requires room { 2 * min batch.length 1 ≤ spare counts.old }
+    requires room { 2 * min batch.length 1 ≤ spare counts.old.others }
     requires small { (q : a_mode_key) → count counts.old q + 2 * batch.length < 2 ^ 32 }
     ensures counted { (q : a_mode_key) → count counts.new q ≡ (count counts.old q - tally_batch q t.0 batch) + tally_batch q u.0 batch }
-    ensures room { spare counts.old ≤ spare counts.new + 2 * min batch.length 1 }
+    ensures room { spare counts.old.others ≤ spare counts.new.others + 2 * min batch.length 1 }
 {
     if batch.length > 0 {
         unfile_as(counts, Holder::Txn(t.0), &batch.item, batch.length);
@@ -58,11 +58,11 @@ pub(crate) fn transfer<A: Allocator + Copy>(
     u: TxnId,
 ) -> Batch
     requires other { t.0 ≢ u.0 }
-    requires room { 2 * min batch.length 1 ≤ spare counts.old }
+    requires room { 2 * min batch.length 1 ≤ spare counts.old.others }
     requires small { (q : a_mode_key) → count counts.old q + 2 * batch.length < 2 ^ 32 }
     requires short { batch.length + 1 < 2 ^ 32 }
     ensures filed { (q : a_mode_key) → (n : ℕ) → n + tally_batch q t.0 batch ≡ count counts.old q + tally_batch q u.0 batch → (n + filings q (transferred_op t.0 u item)) + tally_batch q t.0 result ≡ (count counts.new q + tally_batch q u.0 result) + filings q item }
-    ensures room { spare counts.old + 2 * min result.length 1 ≤ (spare counts.new + 2) + 2 * min batch.length 1 }
+    ensures room { spare counts.old.others + 2 * min result.length 1 ≤ (spare counts.new.others + 2) + 2 * min batch.length 1 }
     ensures short { result.length ≤ batch.length + 1 }
 {
     if !item.is_held(t) {

@@ -6,14 +6,15 @@ ghost use Rattle.acta_table.specs.Fates.{is_open};
 ghost use Rattle.acta_sets.specs.declared.mode.ModeKey.{ModeKey as a_mode_key};
 ghost use Rattle.acta_sets.specs.Operations.{ended_op, transferred_op};
 ghost use Rattle.acta_sets.specs.inside.Held.{changed_at, changed_each};
-ghost use Rattle.acta_sets.specs.inside.Listing.{numbers_in, FrontsHold};
+ghost use Rattle.acta_sets.specs.inside.Listing.{in_map, in_table, numbers_in, FrontsHold};
 ghost use Rattle.acta_sets.specs.inside.Filing.{AreFiled, AreFiledBut};
 
 use crate::batch::Batch;
+use crate::coarse_lists::CoarseLists;
 use crate::counts::Counts;
 use crate::held_op::HeldOp;
 use crate::listing::ModeLists;
-use crate::{batch, counts, listing, mode};
+use crate::{batch, coarse_lists, counts, listing, mode};
 use acta_table::{Fate, MOST_EVENTS, TxnId};
 use std::alloc::Allocator;
 
@@ -58,17 +59,17 @@ pub(crate) fn end_each<A: Allocator + Copy>(
 
 // Advances the ended prefix of the mode lists that have this operation.
 fn advance_one<A: Allocator + Copy>(
-    coarse: &mut ModeLists<A>,
+    coarse: &mut CoarseLists<A>,
     fine: &mut ModeLists<A>,
     items: &[HeldOp],
     number: u32,
 )
-    requires coarse { FrontsHold items.now coarse.old }
-    requires fine { FrontsHold items.now fine.old }
-    ensures coarse { (q : a_mode_key) → numbers_in coarse.new q ≡ numbers_in coarse.old q }
-    ensures fine { (q : a_mode_key) → numbers_in fine.new q ≡ numbers_in fine.old q }
-    ensures coarse_fronts { FrontsHold items.now coarse.new }
-    ensures fine_fronts { FrontsHold items.now fine.new }
+    requires coarse { FrontsHold items.now (in_table coarse.old.items) }
+    requires fine { FrontsHold items.now (in_map fine.old) }
+    ensures coarse { (q : a_mode_key) → numbers_in (in_table coarse.new.items) q ≡ numbers_in (in_table coarse.old.items) q }
+    ensures fine { (q : a_mode_key) → numbers_in (in_map fine.new) q ≡ numbers_in (in_map fine.old) q }
+    ensures coarse_fronts { FrontsHold items.now (in_table coarse.new.items) }
+    ensures fine_fronts { FrontsHold items.now (in_map fine.new) }
 {
     let Some(place) = number.checked_sub(1) else {
         return;
@@ -76,24 +77,24 @@ fn advance_one<A: Allocator + Copy>(
     let place = place as usize;
     if place < items.len() {
         let item = items[place];
-        listing::advance_under(coarse, items, item.ob.0, mode::coarse(&item.op));
+        coarse_lists::advance_under(coarse, items, item.ob.0, mode::coarse(&item.op));
         listing::advance_under(fine, items, item.ob.0, mode::listed_fine(&item.op));
     }
 }
 
 /// Advances the ended prefix of the mode lists that have these operations.
 pub(crate) fn advance_each<A: Allocator + Copy>(
-    coarse: &mut ModeLists<A>,
+    coarse: &mut CoarseLists<A>,
     fine: &mut ModeLists<A>,
     items: &[HeldOp],
     numbers: &[u32],
 )
-    requires coarse { FrontsHold items.now coarse.old }
-    requires fine { FrontsHold items.now fine.old }
-    ensures coarse { (q : a_mode_key) → numbers_in coarse.new q ≡ numbers_in coarse.old q }
-    ensures fine { (q : a_mode_key) → numbers_in fine.new q ≡ numbers_in fine.old q }
-    ensures coarse_fronts { FrontsHold items.now coarse.new }
-    ensures fine_fronts { FrontsHold items.now fine.new }
+    requires coarse { FrontsHold items.now (in_table coarse.old.items) }
+    requires fine { FrontsHold items.now (in_map fine.old) }
+    ensures coarse { (q : a_mode_key) → numbers_in (in_table coarse.new.items) q ≡ numbers_in (in_table coarse.old.items) q }
+    ensures fine { (q : a_mode_key) → numbers_in (in_map fine.new) q ≡ numbers_in (in_map fine.old) q }
+    ensures coarse_fronts { FrontsHold items.now (in_table coarse.new.items) }
+    ensures fine_fronts { FrontsHold items.now (in_map fine.new) }
 {
     for number in numbers {
         advance_one(coarse, fine, items, *number);
@@ -114,10 +115,10 @@ fn transfer_one<A: Allocator + Copy>(
     requires other { t.0 ≢ u.0 }
     requires short { batch.length < MOST_EVENTS }
     requires filed { AreFiledBut batch t.0 u.0 items.old.items counts.old }
-    requires room { 2 * min batch.length 1 ≤ spare counts.old }
+    requires room { 2 * min batch.length 1 ≤ spare counts.old.others }
     ensures items { items.new.items ≡ changed_at (transferred_op t.0 u) number items.old.items }
     ensures filed { AreFiledBut result t.0 u.0 items.new.items counts.new }
-    ensures room { spare counts.old + 2 * min result.length 1 ≤ (spare counts.new + 2) + 2 * min batch.length 1 }
+    ensures room { spare counts.old.others + 2 * min result.length 1 ≤ (spare counts.new.others + 2) + 2 * min batch.length 1 }
     ensures short { result.length ≤ batch.length + 1 }
     ensures long { length items.new.items ≡ length items.old.items }
 {
@@ -146,10 +147,10 @@ fn transfer_batches<A: Allocator + Copy>(
     requires short { length numbers.now ≤ MOST_EVENTS }
     requires other { t.0 ≢ u.0 }
     requires filed { AreFiled items.old.items counts.old }
-    requires room { 2 * length numbers.now ≤ spare counts.old }
+    requires room { 2 * length numbers.now ≤ spare counts.old.others }
     ensures items { items.new.items ≡ changed_each (transferred_op t.0 u) items.old.items numbers.now }
     ensures filed { AreFiledBut result t.0 u.0 items.new.items counts.new }
-    ensures room { 2 * min result.length 1 ≤ spare counts.new }
+    ensures room { 2 * min result.length 1 ≤ spare counts.new.others }
     ensures short { result.length ≤ MOST_EVENTS }
     ensures long { length items.new.items ≡ length items.old.items }
 {
@@ -172,7 +173,7 @@ pub(crate) fn transfer_each<A: Allocator + Copy>(
     requires short { length numbers.now ≤ MOST_EVENTS }
     requires other { t.0 ≢ u.0 }
     requires filed { AreFiled items.old.items counts.old }
-    requires room { 2 * length numbers.now ≤ spare counts.old }
+    requires room { 2 * length numbers.now ≤ spare counts.old.others }
     ensures items { items.new.items ≡ changed_each (transferred_op t.0 u) items.old.items numbers.now }
     ensures filed { AreFiled items.new.items counts.new }
 {

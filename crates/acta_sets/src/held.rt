@@ -1,5 +1,5 @@
-ghost use Rattle.std.specs.Prelude.{◌≡◌, ◌<◌, ℕ, ◌++◌, ◌∷◌, ◌==◌, if◌then◌else◌, [], length, set, find, not, OnOk, OnErr, IfOk};
-ghost use Rattle.acta_table.specs.Sets.{numbered, is_named};
+ghost use Rattle.std.specs.Prelude.{◌≡◌, ◌<◌, ℕ, ◌++◌, ◌∷◌, ◌==◌, if◌then◌else◌, [], true, length, set, find, not, OnOk, OnErr, IfOk};
+ghost use Rattle.acta_table.specs.Sets.{numbered, numbers_of, is_named};
 ghost use Rattle.smallvec.specs.SmallVec.{SmallVec as short_list};
 ghost use Rattle.std.specs.BTreeSet.{insert_key};
 ghost use Rattle.std.specs.Ordering.{nat_cmp};
@@ -93,11 +93,32 @@ fn clear_at<A: Handle>(held: &mut Held<A>, at: u16)
     }
 }
 
+// Whether the operations of the list are the named ones, all of them: most often a transaction hands on all that it
+// holds, and then none has to be searched for.
+fn are_named<A: Handle>(list: &[u32], ops: &OpSet<A>) -> bool
+    ensures { result ≡ true → list.now ≡ numbers_of ops.now }
+{
+    let named = ops.as_slice();
+    if list.len() != named.len() {
+        return false;
+    }
+    for i in 0..list.len() {
+        if list[i] != named[i].0 {
+            return false;
+        }
+    }
+    true
+}
+
 // Removes the named operations from a list.
 fn leave_out<A: Handle>(list: &mut OpList<A>, ops: &OpSet<A>)
     ensures { list.new.items ≡ without ops.now list.old.items }
 {
     if ops.as_slice().is_empty() {
+        return;
+    }
+    if are_named(list.as_slice(), ops) {
+        list.clear();
         return;
     }
     list.retain(|op| !ops.has_number(*op as usize));
@@ -136,6 +157,9 @@ pub(crate) fn named_in<A: Handle>(
     if ops.as_slice().is_empty() {
         return Ok(Vec::new(alloc));
     }
+    if are_named(list, ops) {
+        return Vec::from_slice(alloc, list);
+    }
     picked(alloc, list, ops)
 }
 
@@ -143,6 +167,9 @@ pub(crate) fn named_in<A: Handle>(
 pub(crate) fn first_unnamed<A: Handle>(list: &[u32], ops: &OpSet<A>) -> Option<u32>
     ensures { result ≡ find (λ n. not (is_named ops.now n)) list.now }
 {
+    if are_named(list, ops) {
+        return None;
+    }
     for op in list {
         if !ops.has_number(*op as usize) {
             return Some(*op);

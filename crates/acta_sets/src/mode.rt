@@ -1,4 +1,4 @@
-ghost use Rattle.std.specs.Prelude.{◌≡◌, true};
+ghost use Rattle.std.specs.Prelude.{◌≡◌, ◌<◌, ◌^◌, true, IfSome};
 ghost use Rattle.acta_sets.specs.inside.Modes as modes;
 
 use acta_table::Op;
@@ -44,9 +44,39 @@ pub(crate) struct ModeKey {
     pub mode: LockMode,
 }
 
+/// The number of coarse modes.
+pub(crate) const COARSE_MODES: usize = 6;
+
+// The rank of a coarse mode among them, or `None` for a fine one.
+fn rank(mode: LockMode) -> Option<usize>
+    ensures { result ≡ modes.rank mode }
+{
+    match mode {
+        LockMode::Reads => Some(0),
+        LockMode::Writes => Some(1),
+        LockMode::Gets => Some(2),
+        LockMode::Adds => Some(3),
+        LockMode::Sizes => Some(4),
+        LockMode::Changes => Some(5),
+        LockMode::WritesOf(_) | LockMode::ChangesOf(_) | LockMode::Tests(_) => None,
+    }
+}
+
+/// The place of the mode on the object among the coarse modes of all objects, or `None` for a fine mode.
+pub(crate) fn coarse_place(ob: u16, mode: LockMode) -> Option<usize>
+    ensures place { result ≡ modes.coarse_place ob mode }
+    ensures small { IfSome result (λ place. place < 2 ^ 32) }
+{
+    match rank(mode) {
+        Some(rank) => Some(COARSE_MODES * ob as usize + rank),
+        None => None,
+    }
+}
+
 /// The coarse mode of an operation, which it shares with all of its sort. A `has` and an `add` of 0 have none.
 pub(crate) fn coarse(op: &Op) -> Option<LockMode>
-    ensures { result ≡ modes.coarse op.now }
+    ensures mode { result ≡ modes.coarse op.now }
+    ensures coarse { modes.IsCoarse result }
 {
     match op {
         Op::Read => Some(LockMode::Reads),
@@ -105,5 +135,5 @@ pub(crate) fn are_equivalent(p: &Op, q: &Op) -> bool
     ensures coarse { result ≡ true → modes.coarse p.now ≡ modes.coarse q.now }
     ensures fine { result ≡ true → modes.fine p.now ≡ modes.fine q.now }
 {
-    is_same(coarse(p), coarse(q)) && is_same(fine(p), fine(q))
+    p == q || is_same(coarse(p), coarse(q)) && is_same(fine(p), fine(q))
 }

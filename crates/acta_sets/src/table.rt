@@ -7,6 +7,7 @@ ghost use Rattle.acta_table.specs.Sets.{is_named};
 ghost use Rattle.acta_sets.specs.Permits.{permitted};
 
 use crate::changing::{advance_each, end_each, transfer_each};
+use crate::coarse_lists::CoarseLists;
 use crate::counts::Counts;
 use crate::handle::Handle;
 use crate::held::{
@@ -18,7 +19,7 @@ use crate::listing::ModeLists;
 use crate::mode::{Holder, coarse, listed_fine};
 use crate::permits::Permits;
 use crate::selection::{Selection, selected};
-use crate::{counts, held, listing};
+use crate::{coarse_lists, counts, held, listing};
 use acta_table::{Fate, MOST_EVENTS, ObjId, Op, OpNo, OpSet, TxnId};
 use std::alloc::{AllocError, Allocator};
 use std::collections::BTreeSet;
@@ -33,7 +34,7 @@ pub struct OpTable<A: Handle> {
     holders: Holders<A>,
     counts: Counts<A>,
     // The operations in each coarse mode, and in each fine mode that is searched.
-    coarse: ModeLists<A>,
+    coarse: CoarseLists<A>,
     fine: ModeLists<A>,
 }
 
@@ -46,7 +47,7 @@ impl<A: Handle> std::marker::Model for OpTable<A> {
 
     ghost view = { λ table. table.items.items };
 
-    ghost invariant = { λ table. IsIndexed table.items.items table.held.items table.holders.keys table.counts table.coarse table.fine };
+    ghost invariant = { λ table. IsIndexed table.items.items table.held.items table.holders.keys table.counts table.coarse.items table.fine };
 }
 
 impl<A: Handle> OpTable<A> {
@@ -58,8 +59,8 @@ impl<A: Handle> OpTable<A> {
             items: Vec::new(alloc),
             held: Vec::new(alloc),
             holders: Holders::new(alloc),
-            counts: Counts::new(alloc),
-            coarse: ModeLists::new(alloc),
+            counts: counts::no_counts(alloc),
+            coarse: CoarseLists::new(alloc),
             fine: ModeLists::new(alloc),
         }
     }
@@ -101,12 +102,13 @@ impl<A: Handle> OpTable<A> {
         let alloc = *self.items.allocator();
         let coarse = coarse(&op);
         let fine = listed_fine(&op);
-        listing::make_place(alloc, &mut self.coarse, ob.0, coarse)?;
+        coarse_lists::make_place(&mut self.coarse, ob.0, coarse)?;
         listing::make_place(alloc, &mut self.fine, ob.0, fine)?;
+        counts::make_totals(&mut self.counts, ob.0)?;
         counts::make_room(&mut self.counts, 4)?;
         add_held(&mut self.held, &mut self.holders, t.0, number)?;
         counts::count_in(&mut self.counts, &item);
-        listing::list_under(&mut self.coarse, ob.0, coarse, number);
+        coarse_lists::list_under(&mut self.coarse, ob.0, coarse, number);
         listing::list_under(&mut self.fine, ob.0, fine, number);
         self.items.push_reserved(item);
         Ok(OpNo(number))
@@ -334,7 +336,7 @@ impl<A: Handle> OpTable<A> {
             held: held::copied(&self.held)?,
             holders: held::copied_holders(&self.holders)?,
             counts: counts::copied(&self.counts)?,
-            coarse: listing::copied(&self.coarse)?,
+            coarse: coarse_lists::copied(&self.coarse)?,
             fine: listing::copied(&self.fine)?,
         })
     }

@@ -9,17 +9,18 @@ use Rattle.acta_sets.specs.inside.Held.{AreHeld, AreAmong}
 use Rattle.acta_sets.specs.inside.Filing.{AreFiled}
 use Rattle.acta_sets.specs.inside.Modes.{coarse, listed_fine}
 use Rattle.acta_sets.specs.declared.listing.ModeList.{ModeList}
-use Rattle.acta_sets.specs.inside.Listing.{AreListed, FrontsHold}
+use Rattle.acta_sets.specs.declared.counts.Counts.{Counts}
+use Rattle.acta_sets.specs.inside.Listing.{AreListed, FrontsHold, in_map, in_table}
 
 -- the indexes agree with the operations: held lists, holders, counts and mode lists
-abbrev pub IsIndexed : {A S : Type 0} → List HeldOp → List (SmallVec ℕ) → List ℕ → HashMap ModeKey ℕ S → HashMap ModeKey (ModeList A) S → HashMap ModeKey (ModeList A) S → Type 0
+abbrev pub IsIndexed : {A S : Type 0} → List HeldOp → List (SmallVec ℕ) → List ℕ → Counts A → List (ModeList A) → HashMap ModeKey (ModeList A) S → Type 0
 IsIndexed items lists holders counts first second = record {
   few : length items ≤ MOST_EVENTS;
   held : AreHeld items lists;
   among : AreAmong lists holders;
   filed : AreFiled items counts;
-  coarse : AreListed coarse items first;
-  coarse_fronts : FrontsHold items first;
-  fine : AreListed listed_fine items second;
-  fine_fronts : FrontsHold items second;
+  coarse : AreListed coarse items (in_table first);
+  coarse_fronts : FrontsHold items (in_table first);
+  fine : AreListed listed_fine items (in_map second);
+  fine_fronts : FrontsHold items (in_map second);
 }

@@ -1,5 +1,5 @@
 -- The lock modes of operations, and mode keys.
-use Rattle.std.specs.Prelude.{Bool, true, false, ◌&&◌, ◌==◌, pos, Option, Some, None, if◌then◌else◌}
+use Rattle.std.specs.Prelude.{⊤, IsSome, ℕ, ◌+◌, ◌*◌, Bool, true, false, ◌&&◌, ◌==◌, pos, Option, Some, None, if◌then◌else◌}
 use Rattle.std.specs.Ordering.{int_eq}
 use Rattle.acta_table.specs.declared.event.Op.{Op}
 use Rattle.acta_table.specs.declared.event.Op.TheVariants.{Read, Write, Get, Add, Insert, Remove, Has, Size}
@@ -31,6 +31,37 @@ same_holder _ _ = false
 -- whether two mode keys are the same
 abbrev pub same_key : ModeKey → ModeKey → Bool
 same_key k l = same_holder k.holder l.holder && (k.ob == l.ob) && same_mode k.mode l.mode
+
+-- the rank of a coarse mode among them; a fine one has none
+abbrev pub rank : LockMode → Option ℕ
+rank Reads = Some 0
+rank Writes = Some 1
+rank Gets = Some 2
+rank Adds = Some 3
+rank Sizes = Some 4
+rank Changes = Some 5
+rank _ = None
+
+-- the mode, if any, is coarse
+abbrev pub IsCoarse : Option LockMode → Type 0
+IsCoarse None = ⊤
+IsCoarse (Some c) = IsSome (rank c)
+
+-- the place of the mode on the object among the coarse modes of all objects; a fine one has none
+abbrev pub place_by : ℕ → Option ℕ → Option ℕ
+place_by ob (Some n) = Some (6 * ob + n)
+place_by ob None = None
+
+abbrev pub coarse_place : ℕ → LockMode → Option ℕ
+coarse_place ob mode = place_by ob (rank mode)
+
+-- the place of the total of a mode key: only keys of coarse modes and of anyone have one
+abbrev pub total_by : Holder → ℕ → LockMode → Option ℕ
+total_by Anyone ob mode = coarse_place ob mode
+total_by (Txn t) ob mode = None
+
+abbrev pub total_place : ModeKey → Option ℕ
+total_place q = total_by q.holder q.ob q.mode
 
 -- the coarse mode of an operation, if any, which it shares with all of its sort
 abbrev pub coarse : Op → Option LockMode

@@ -13,5 +13,5 @@ invariant-loop-number g l =
       long : length l.items.items ≡ length l.fn.items.items;
       short : l.batch.length ≤ l.number-index;
       filed : AreFiledBut l.batch l.fn.t.0 l.fn.u.0 l.items.items l.counts;
-      room : 2 * length l.numbers + 2 * min l.batch.length 1 ≤ spare l.counts + 2 * l.number-index;
+      room : 2 * length l.numbers + 2 * min l.batch.length 1 ≤ spare l.counts.others + 2 * l.number-index;
     }

@@ -5,7 +5,7 @@ use Rattle.acta_sets.specs.Operations.{transferred_of, is_held}
 use Rattle.acta_sets.specs.inside.Held.{AreHeld, numbers_by, named_of}
 use Rattle.acta_sets.proofs.Access.{length-numbers_by, each-given, changed-transferred_of, transferred_of-same, filter-numbers, length-transferred_of, named_held, AreHeld-same, AreHeld-transferred_of}
 use Rattle.acta_sets.specs.inside.Modes.{coarse, listed_fine}
-use Rattle.acta_sets.specs.inside.Listing.{AreListed, FrontsHold}
+use Rattle.acta_sets.specs.inside.Listing.{AreListed, FrontsHold, in_table, in_map}
 use Rattle.acta_sets.proofs.Listed.{AreListed-transferred_of, FrontsHold-after, NoneReopens-transferred_of}
 use Rattle.acta_sets.proofs.Among.{AreAmong-fewer}
 use Rattle.acta_sets.proofs.Filed.{AreFiled-same}
@@ -74,10 +74,10 @@ invariant_of-self-2 g c =
           (AreHeld-transferred_of items c.self.inside.held.items c.share_held.new.held.items c.leave_out_at.new.held.items c.args.from c.args.u c.args.ops.now c.as_slice.result.now c.self.invariant.held c.if-from-u.false (given_is g c) c.in_ok-share_held.ensures.ok c.leave_out_at.ensures);
       among = AreAmong-fewer c.share_held.new.held.items c.leave_out_at.new.held.items c.share_held.new.holders.keys c.args.from.0 c.args.ops.now c.leave_out_at.ensures (c.in_ok-share_held.ensures.among c.self.invariant.among);
       filed = c.transfer_each.ensures.filed;
-      coarse = subst (λ xs. AreListed coarse xs c.self.inside.coarse) (sym same) (AreListed-transferred_of coarse items c.self.inside.coarse c.args.from.0 c.args.ops.now c.args.u c.self.invariant.coarse);
-      coarse_fronts = subst (λ xs. FrontsHold xs c.self.inside.coarse) (sym same) (FrontsHold-after items (transferred_of c.args.from.0 c.args.ops.now c.args.u items) c.self.inside.coarse (NoneReopens-transferred_of c.args.from.0 c.args.ops.now c.args.u items) c.self.invariant.coarse_fronts);
-      fine = subst (λ xs. AreListed listed_fine xs c.self.inside.fine) (sym same) (AreListed-transferred_of listed_fine items c.self.inside.fine c.args.from.0 c.args.ops.now c.args.u c.self.invariant.fine);
-      fine_fronts = subst (λ xs. FrontsHold xs c.self.inside.fine) (sym same) (FrontsHold-after items (transferred_of c.args.from.0 c.args.ops.now c.args.u items) c.self.inside.fine (NoneReopens-transferred_of c.args.from.0 c.args.ops.now c.args.u items) c.self.invariant.fine_fronts);
+      coarse = subst (λ xs. AreListed coarse xs (in_table c.self.inside.coarse.items)) (sym same) (AreListed-transferred_of coarse items (in_table c.self.inside.coarse.items) c.args.from.0 c.args.ops.now c.args.u c.self.invariant.coarse);
+      coarse_fronts = subst (λ xs. FrontsHold xs (in_table c.self.inside.coarse.items)) (sym same) (FrontsHold-after items (transferred_of c.args.from.0 c.args.ops.now c.args.u items) (in_table c.self.inside.coarse.items) (NoneReopens-transferred_of c.args.from.0 c.args.ops.now c.args.u items) c.self.invariant.coarse_fronts);
+      fine = subst (λ xs. AreListed listed_fine xs (in_map c.self.inside.fine)) (sym same) (AreListed-transferred_of listed_fine items (in_map c.self.inside.fine) c.args.from.0 c.args.ops.now c.args.u c.self.invariant.fine);
+      fine_fronts = subst (λ xs. FrontsHold xs (in_map c.self.inside.fine)) (sym same) (FrontsHold-after items (transferred_of c.args.from.0 c.args.ops.now c.args.u items) (in_map c.self.inside.fine) (NoneReopens-transferred_of c.args.from.0 c.args.ops.now c.args.u items) c.self.invariant.fine_fronts);
     }
 
 pub returns-clause-transferred : goal.returns-clause-transferred

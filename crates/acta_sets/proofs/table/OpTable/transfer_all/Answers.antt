@@ -5,7 +5,7 @@ use Rattle.acta_sets.specs.Operations.{transferred, transferred_op, is_held}
 use Rattle.acta_sets.specs.inside.Held.{AreHeld, numbers_by}
 use Rattle.acta_sets.proofs.Access.{numbers_by-all, length-numbers_by, each-given, changed-transferred, transferred_same, AreHeld-same, AreHeld-transferred}
 use Rattle.acta_sets.specs.inside.Modes.{coarse, listed_fine}
-use Rattle.acta_sets.specs.inside.Listing.{AreListed, FrontsHold}
+use Rattle.acta_sets.specs.inside.Listing.{AreListed, FrontsHold, in_table, in_map}
 use Rattle.acta_sets.proofs.Listed.{AreListed-transferred, FrontsHold-after, NoneReopens-transferred}
 use Rattle.acta_sets.proofs.Filed.{AreFiled-same}
 use Rattle.acta_sets.proofs.table.OpTable.transfer_all.Given.{Over}
@@ -59,10 +59,10 @@ invariant_of-self-2 g c =
           (AreHeld-transferred items c.self.inside.held.items c.share_held.new.held.items c.clear_held.new.held.items c.args.t c.args.u c.as_slice.result.now c.self.invariant.held c.if-t-u.false (given_is g c) c.in_ok-share_held.ensures.ok c.clear_held.ensures.lists);
       among = c.clear_held.ensures.among (c.in_ok-share_held.ensures.among c.self.invariant.among);
       filed = c.transfer_each.ensures.filed;
-      coarse = subst (λ xs. AreListed coarse xs c.self.inside.coarse) (sym same) (AreListed-transferred coarse items c.self.inside.coarse c.args.t.0 c.args.u c.self.invariant.coarse);
-      coarse_fronts = subst (λ xs. FrontsHold xs c.self.inside.coarse) (sym same) (FrontsHold-after items (transferred c.args.t.0 c.args.u items) c.self.inside.coarse (NoneReopens-transferred c.args.t.0 c.args.u items) c.self.invariant.coarse_fronts);
-      fine = subst (λ xs. AreListed listed_fine xs c.self.inside.fine) (sym same) (AreListed-transferred listed_fine items c.self.inside.fine c.args.t.0 c.args.u c.self.invariant.fine);
-      fine_fronts = subst (λ xs. FrontsHold xs c.self.inside.fine) (sym same) (FrontsHold-after items (transferred c.args.t.0 c.args.u items) c.self.inside.fine (NoneReopens-transferred c.args.t.0 c.args.u items) c.self.invariant.fine_fronts);
+      coarse = subst (λ xs. AreListed coarse xs (in_table c.self.inside.coarse.items)) (sym same) (AreListed-transferred coarse items (in_table c.self.inside.coarse.items) c.args.t.0 c.args.u c.self.invariant.coarse);
+      coarse_fronts = subst (λ xs. FrontsHold xs (in_table c.self.inside.coarse.items)) (sym same) (FrontsHold-after items (transferred c.args.t.0 c.args.u items) (in_table c.self.inside.coarse.items) (NoneReopens-transferred c.args.t.0 c.args.u items) c.self.invariant.coarse_fronts);
+      fine = subst (λ xs. AreListed listed_fine xs (in_map c.self.inside.fine)) (sym same) (AreListed-transferred listed_fine items (in_map c.self.inside.fine) c.args.t.0 c.args.u c.self.invariant.fine);
+      fine_fronts = subst (λ xs. FrontsHold xs (in_map c.self.inside.fine)) (sym same) (FrontsHold-after items (transferred c.args.t.0 c.args.u items) (in_map c.self.inside.fine) (NoneReopens-transferred c.args.t.0 c.args.u items) c.self.invariant.fine_fronts);
     }
 
 pub returns-clause-transferred : goal.returns-clause-transferred
