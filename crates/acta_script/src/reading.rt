@@ -179,7 +179,10 @@ fn parse_permit<A: Allocator>(model: &Model<A>, words: &[&[u8]]) -> Result<Event
 pub(crate) fn parse_event_kind(word: &[u8]) -> Result<EventKind, LineFault>
     ensures { result ≡ parse_event_kind word.now }
 {
-    if word == event_word(EventKind::Begin).as_bytes() {
+    // (the word of most lines first)
+    if word == event_word(EventKind::Operate).as_bytes() {
+        Ok(EventKind::Operate)
+    } else if word == event_word(EventKind::Begin).as_bytes() {
         Ok(EventKind::Begin)
     } else if word == event_word(EventKind::Spawn).as_bytes() {
         Ok(EventKind::Spawn)
@@ -191,8 +194,6 @@ pub(crate) fn parse_event_kind(word: &[u8]) -> Result<EventKind, LineFault>
         Ok(EventKind::Delegate)
     } else if word == event_word(EventKind::Form).as_bytes() {
         Ok(EventKind::Form)
-    } else if word == event_word(EventKind::Operate).as_bytes() {
-        Ok(EventKind::Operate)
     } else if word == event_word(EventKind::Commit).as_bytes() {
         Ok(EventKind::Commit)
     } else if word == event_word(EventKind::Abort).as_bytes() {
