@@ -1,4 +1,4 @@
-ghost use Rattle.std.specs.Prelude.{◌≡◌, ◌<◌, ℕ, ◌++◌, ◌∷◌, ◌==◌, if◌then◌else◌, [], true, length, set, find, not, OnOk, OnErr, IfOk};
+ghost use Rattle.std.specs.Prelude.{◌≡◌, ◌≢◌, ◌<◌, false, ℕ, ◌++◌, ◌∷◌, ◌==◌, if◌then◌else◌, [], true, length, set, find, not, OnOk, OnErr, IfOk};
 ghost use Rattle.acta_table.specs.Sets.{numbered, numbers_of, is_named};
 ghost use Rattle.smallvec.specs.SmallVec.{SmallVec as short_list};
 ghost use Rattle.std.specs.BTreeSet.{insert_key};
@@ -93,10 +93,11 @@ fn clear_at<A: Handle>(held: &mut Held<A>, at: u16)
     }
 }
 
-// Whether the operations of the list are the named ones, all of them: most often a transaction hands on all that it
-// holds, and then none has to be searched for.
+// Whether the operations of the list are the named ones. Then a transaction hands on all that it holds, and none of its
+// operations has to be searched for.
 fn are_named<A: Handle>(list: &[u32], ops: &OpSet<A>) -> bool
-    ensures { result ≡ true → list.now ≡ numbers_of ops.now }
+    ensures all { result ≡ true → list.now ≡ numbers_of ops.now }
+    ensures other { result ≡ false → list.now ≢ numbers_of ops.now }
 {
     let named = ops.as_slice();
     if list.len() != named.len() {

@@ -11,4 +11,4 @@ returns-then-is_empty g c =
 
 pub returns-then-are_named : goal.returns-then-are_named
 returns-then-are_named g c =
-    subst (λ (ns : List ℕ). IfOk c.from_slice.result (λ named. named.items ≡ ns)) (sym (named_of-all c.args.ops.now c.args.list.now (c.are_named.ensures c.if-are_named.true))) c.from_slice.ensures.items
+    subst (λ (ns : List ℕ). IfOk c.from_slice.result (λ named. named.items ≡ ns)) (sym (named_of-all c.args.ops.now c.args.list.now (c.are_named.ensures.all c.if-are_named.true))) c.from_slice.ensures.items
