@@ -65,23 +65,7 @@ fn number<'a>(
     option(alloc, id, value, help).value_parser(numbers)
 }
 
-// The transactions of a list with commas between them, each once; `None` where it is no such list.
-fn txns_listed(alloc: Global, list: &str) -> Result<Option<Vec<TxnId>>, AllocError> {
-    let mut txns: Vec<TxnId> = Vec::new(alloc);
-    for word in list.split(',') {
-        match read_u16(word.as_bytes()) {
-            Some(number) if has_lane(TxnId(number)) => {
-                if !txns.contains(&TxnId(number)) {
-                    txns.push(TxnId(number))?;
-                }
-            }
-            _ => return Ok(None),
-        }
-    }
-    Ok(Some(txns))
-}
-
-// The transactions that are asked for; `None` if no list names any.
+// The transactions that are asked for, each once.
 fn txns_asked(
     alloc: Global,
     surface: &mut Command<'_>,
@@ -90,13 +74,19 @@ fn txns_asked(
     let Some(list) = list else {
         return Ok(None);
     };
-    let txns = txns_listed(alloc, list)?;
-    if txns.is_none() {
-        let fault =
-            "--txns takes numbers of transactions, from 1 to 16,383, with commas between them";
-        return Err(usage(surface, ErrorKind::InvalidValue, fault));
+    let mut txns: Vec<TxnId> = Vec::new(alloc);
+    for word in list.split(',') {
+        let t = TxnId(read_u16(word.as_bytes()).unwrap_or(0));
+        if !has_lane(t) {
+            let fault =
+                "--txns takes numbers of transactions, from 1 to 16,383, with commas between them";
+            return Err(usage(surface, ErrorKind::InvalidValue, fault));
+        }
+        if !txns.contains(&t) {
+            txns.push(t)?;
+        }
     }
-    Ok(txns)
+    Ok(Some(txns))
 }
 
 // The names of objects that are asked for.
@@ -198,20 +188,17 @@ fn form_asked(matches: &ArgMatches<'_>) -> Form {
     }
 }
 
-// What the matches ask for.
-fn asked_by<'a>(
-    alloc: Global,
-    surface: &mut Command<'a>,
-    matches: &ArgMatches<'a>,
-) -> Result<Asked<'a>, UsageFault> {
-    let choice = choice_asked(alloc, surface, matches)?;
-    let Some(model) = model_named(matches.get_str("MODEL").unwrap_or("@")) else {
-        return Err(UsageFault::UnknownModel);
-    };
-    let form = form_asked(matches);
-    let drawing = Drawing { form, choice };
-    Ok(Asked { drawing, model })
-}
+// The options that take a place or a page.
+const NUMBERS: [(&str, &str, &str); 4] = [
+    ("from", "PLACE", "Draws only from this place on"),
+    ("to", "PLACE", "Draws only up to this place"),
+    (
+        "around",
+        "PLACE",
+        "Draws only this place and the 8 before and after it; with --waits, the graphs right after this place",
+    ),
+    ("page", "N", "Draws only the Nth page, of 200 rows"),
+];
 
 // Adds the options that choose rows.
 fn with_rows<'a>(
@@ -223,22 +210,11 @@ fn with_rows<'a>(
     let help = "Draws only operations on these objects";
     let command = with_arg(command, option(alloc, "objects", "NAME,NAME..", help));
     let help = "Draws only refused events, and the events that block them";
-    let command = with_arg(command, flag(alloc, "refused", help));
-    let help = "Draws only from this place on";
-    let command = with_arg(
-        command,
-        number(alloc, "from", "PLACE", 1, MOST_EVENTS, help),
-    );
-    let help = "Draws only up to this place";
-    let command = with_arg(command, number(alloc, "to", "PLACE", 1, MOST_EVENTS, help));
-    let help =
-        "Draws only this place and the 8 before and after it; with --waits, the graphs right after this place";
-    let command = with_arg(
-        command,
-        number(alloc, "around", "PLACE", 1, MOST_EVENTS, help),
-    );
-    let help = "Draws only the Nth page, of 200 rows";
-    with_arg(command, number(alloc, "page", "N", 1, MOST_EVENTS, help))
+    let mut command = with_arg(command, flag(alloc, "refused", help));
+    for (id, value, help) in NUMBERS {
+        command = with_arg(command, number(alloc, id, value, 1, MOST_EVENTS, help));
+    }
+    command
 }
 
 /// The command line of `draw`.
@@ -272,6 +248,14 @@ impl<'a> CommandLine<'a> for DrawLine {
         surface: &mut Command<'a>,
         matches: &ArgMatches<'a>,
     ) -> Result<Asked<'a>, UsageFault> {
-        asked_by(alloc, surface, matches)
+        let choice = choice_asked(alloc, surface, matches)?;
+        let Some(model) = model_named(matches.get_str("MODEL").unwrap_or("@")) else {
+            return Err(UsageFault::UnknownModel);
+        };
+        let form = form_asked(matches);
+        Ok(Asked {
+            drawing: Drawing { form, choice },
+            model,
+        })
     }
 }

@@ -30,44 +30,26 @@ impl Blocker {
     }
 }
 
-/// The blockers of a refused event: two edges for a clash, and at most one blocker for another reason.
-#[derive(Clone, Copy, PartialEq, Eq, Debug)]
-pub struct Blockers {
-    pub first: Option<Blocker>,
-    pub second: Option<Blocker>,
-}
-
-impl Blockers {
-    /// No blocker.
-    pub const NONE: Blockers = Blockers {
-        first: None,
-        second: None,
-    };
-}
-
-// Whether the event forms an edge of a kind that limits when a transaction begins.
-fn forms_begin_kind<A: Allocator>(event: &Event<A>) -> bool {
-    match event {
-        Event::Form(kind, _, _) => kind.is_begin_kind(),
-        _ => false,
-    }
-}
-
-/// The blockers of an event that was refused for this reason.
-pub fn blockers_of<A: Allocator>(event: &Event<A>, reason: Reason) -> Blockers {
+/// The blockers of an event that was refused for this reason: two edges for a clash, and at most one blocker for another
+/// reason.
+pub fn blockers_of<A: Allocator>(event: &Event<A>, reason: Reason) -> [Option<Blocker>; 2] {
     let blocker = match reason {
         Reason::NotResponsible(op) | Reason::PartialDelegation(op) | Reason::Conflict(op) => {
             Blocker::Operation(op.number)
         }
         Reason::Blocked(blocking_edge) => Blocker::Edge(blocking_edge.by.number),
         Reason::Clash(clash) => {
-            return Blockers {
-                first: Some(Blocker::Edge(clash.commit.number)),
-                second: Some(Blocker::Edge(clash.abort.number)),
-            };
+            return [
+                Some(Blocker::Edge(clash.commit.number)),
+                Some(Blocker::Edge(clash.abort.number)),
+            ];
         }
         Reason::AlreadyBegun { txn, .. } => Blocker::Start(txn),
-        Reason::FormTooLate { txn, .. } if forms_begin_kind(event) => Blocker::Start(txn),
+        Reason::FormTooLate { txn, .. }
+            if matches!(event, Event::Form(kind, _, _) if kind.is_begin_kind()) => {
+            // (the kind limits when the transaction begins)
+            Blocker::Start(txn)
+        }
         Reason::FormTooLate { txn, .. }
         | Reason::NotInProgress { txn, .. }
         | Reason::PartnerNotInProgress { txn, .. } => Blocker::End(txn),
@@ -76,10 +58,7 @@ pub fn blockers_of<A: Allocator>(event: &Event<A>, reason: Reason) -> Blockers {
         | Reason::Form(_)
         | Reason::NotInModel(_)
         | Reason::BadSet { .. }
-        | Reason::EdgesFull => return Blockers::NONE,
+        | Reason::EdgesFull => return [None, None],
     };
-    Blockers {
-        first: Some(blocker),
-        second: None,
-    }
+    [Some(blocker), None]
 }

@@ -1,10 +1,8 @@
 //! The lines of an SVG from refused events to the operations, edges and transactions that block them.
 
 use crate::blockers::Blocker;
-use crate::lanes::Lanes;
 use crate::markup::{END_OF_GROUP, put_titled};
-use crate::selection::Selection;
-use crate::svg_layout::SvgLayout;
+use crate::svg_layout::{SvgLayout, aside};
 use acta_machine::Handle;
 use acta_prose::{Prose, put};
 use acta_table::TxnId;
@@ -32,23 +30,10 @@ pub struct Block {
     to: (usize, usize),
 }
 
-// The parts of a picture that a line joins.
-#[derive(Drop)]
-struct Joined<'a, A: Handle> {
-    lanes: &'a Lanes<A>,
-    selection: &'a Selection<A>,
-    layout: &'a SvgLayout<A>,
-}
-
-impl<'a, A: Handle> Joined<'a, A> {
-    // The middle of the lane of the transaction.
-    fn x(&self, t: TxnId) -> Option<usize> {
-        Some(self.layout.lane_x(self.selection.column(t)?))
-    }
-
+impl<'a, A: Handle> SvgLayout<'a, A> {
     // The point below the mark of a row on the lane of the transaction, or of the one that does the event.
     fn mark_point(&self, row: usize, t: Option<TxnId>) -> Option<(usize, usize)> {
-        let row_box = self.layout.box_of(row)?;
+        let row_box = self.box_of(row)?;
         let actor = self.lanes.row(row)?.figure.actor.txn;
         let x = self.x(t.unwrap_or(actor))?;
         Some((x, row_box.y.saturating_add(11)))
@@ -56,16 +41,12 @@ impl<'a, A: Handle> Joined<'a, A> {
 
     // The point below the foot of the arrow of an edge, beside the lane of the one that depends.
     fn edge_point(&self, row: usize, number: u32) -> Option<(usize, usize)> {
-        let row_box = self.layout.box_of(row)?;
+        let row_box = self.box_of(row)?;
         let number = u64::from(number);
         let place = row_box.arrows.iter().position(|arrow| arrow.has(number))?;
         let arrow = row_box.arrows.get(place)?;
         let (from, to) = (self.x(arrow.j)?, self.x(arrow.i)?);
-        let x = if from < to {
-            from.saturating_add(FOOT)
-        } else {
-            from.saturating_sub(FOOT)
-        };
+        let x = aside(from, from < to, FOOT);
         Some((x, row_box.y_of(place).saturating_add(8)))
     }
 
@@ -95,31 +76,20 @@ fn near(from: (usize, usize), to: (usize, usize)) -> (usize, usize) {
     let (to_x, to_y) = to;
     if y.saturating_sub(to_y) <= MOST_HEIGHT {
         to
-    } else if to_x < x {
-        (x.saturating_sub(SIDE), y.saturating_sub(UP))
     } else {
-        (x.saturating_add(SIDE), y.saturating_sub(UP))
+        (aside(x, x <= to_x, SIDE), y.saturating_sub(UP))
     }
 }
 
 /// The lines of all refused events that are drawn.
-pub fn blocks_of<A: Handle>(
-    lanes: &Lanes<A>,
-    selection: &Selection<A>,
-    layout: &SvgLayout<A>,
-) -> Result<Vec<Block, A>, AllocError> {
-    let joined = Joined {
-        lanes,
-        selection,
-        layout,
-    };
-    let mut blocks = Vec::new(lanes.run.allocator());
+pub fn blocks_of<A: Handle>(layout: &SvgLayout<'_, A>) -> Result<Vec<Block, A>, AllocError> {
+    let mut blocks = Vec::new(layout.lanes.run.allocator());
     for row_box in layout.boxes.iter() {
-        let blockers = lanes.blockers(row_box.number);
-        if let Some(block) = joined.block(row_box.number, blockers.first) {
+        let [first, second] = layout.lanes.blockers(row_box.number);
+        if let Some(block) = layout.block(row_box.number, first) {
             blocks.push(block)?;
         }
-        if let Some(block) = joined.block(row_box.number, blockers.second) {
+        if let Some(block) = layout.block(row_box.number, second) {
             blocks.push(block)?;
         }
     }
@@ -137,12 +107,8 @@ fn put_name<A: Allocator>(prose: Prose<A>, blocker: Blocker) -> Prose<A> {
 }
 
 /// Adds a line. On one lane, or to the foot of an arrow beside it, it goes round the marks between its ends.
-pub fn put_block<A: Handle>(
-    out: Prose<A>,
-    lanes: &Lanes<A>,
-    block: &Block,
-    gap: usize,
-) -> Prose<A> {
+pub fn put_block<A: Handle>(out: Prose<A>, layout: &SvgLayout<'_, A>, block: &Block) -> Prose<A> {
+    let lanes = layout.lanes;
     let alloc = lanes.run.allocator();
     let event = lanes
         .row(block.row)
@@ -157,12 +123,8 @@ pub fn put_block<A: Handle>(
     let out = if x.abs_diff(to_x) <= FOOT {
         // (a short line has few marks to go round)
         let height = y.abs_diff(to_y);
-        let wide = (gap.saturating_mul(5) / 8).min(height.saturating_mul(2));
-        let side = if to_x < x {
-            x.saturating_sub(wide)
-        } else {
-            x.saturating_add(wide)
-        };
+        let wide = (layout.gap.saturating_mul(5) / 8).min(height.saturating_mul(2));
+        let side = aside(x, x <= to_x, wide);
         put!(out; "C", side, " ", y, " ", side, " ", to_y, " ", to_x, " ", to_y)
     } else {
         put!(out; "L", to_x, " ", to_y)

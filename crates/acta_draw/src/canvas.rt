@@ -1,6 +1,7 @@
 //! A line of characters on which marks and ties are put, in colours or without.
 
-use acta_prose::{Prose, digits};
+use acta_prose::Prose;
+use itoa::Buffer;
 use std::alloc::{AllocError, Allocator};
 
 /// The colour of a character.
@@ -71,14 +72,8 @@ impl<A: Allocator> Canvas<A> {
 
     /// Puts a number from the column on, as far as the line goes.
     pub fn put_number(&mut self, column: usize, number: u32, ink: Ink) {
-        let count = digits(number as usize);
-        let mut rest = number;
-        for place in 0..count {
-            let at = column
-                .saturating_add(count.saturating_sub(place))
-                .saturating_sub(1);
-            self.put(at, char::from_digit(rest % 10, 10).unwrap_or('0'), ink);
-            rest /= 10;
+        for (place, digit) in Buffer::new().format(number).char_indices() {
+            self.put(column.saturating_add(place), digit, ink);
         }
     }
 

@@ -3,6 +3,7 @@
 use crate::lanes::{Lanes, Row};
 use acta_machine::Handle;
 use acta_prose::name_text;
+use acta_script::object_name;
 use acta_table::{Event, Model, TxnId};
 use std::alloc::{AllocError, Allocator};
 
@@ -71,65 +72,65 @@ impl Choice {
         is_last && !self.is_refused && self.objects.is_none()
     }
 
-    // For each object whether operations on it are wanted.
-    fn wanted_objects<A: Handle>(
-        &self,
-        alloc: A,
-        model: &Model<A>,
-    ) -> Result<Vec<bool, A>, AllocError> {
-        let mut wanted = Vec::new(alloc);
-        for object in model.objects() {
-            let name = name_text(object.name.as_slice());
-            let is_wanted = match &self.objects {
-                Some(names) => names.iter().any(|one| one.as_str() == name),
-                None => true,
-            };
-            wanted.push(is_wanted)?;
+    // Whether the event is an operation on one of the objects, where some are named.
+    fn is_on_object<A: Handle>(&self, model: &Model<A>, event: &Event<A>) -> bool {
+        match (&self.objects, event) {
+            (None, _) => true,
+            (Some(names), Event::Operate(_, object, _)) => {
+                let name = name_text(object_name(model, *object));
+                names.iter().any(|one| one.as_str() == name)
+            }
+            _ => false,
         }
-        Ok(wanted)
     }
 
-    // Whether the row is wanted, where these objects are.
-    fn has_row<A: Handle>(&self, row: &Row<'_, A>, objects: &[bool]) -> bool {
-        let is_on_object = match &row.step.event {
-            Event::Operate(_, object, _) => objects.get(usize::from(object.0)) == Some(&true),
-            _ => false,
-        };
+    // Whether the row is wanted.
+    fn has_row<A: Handle>(&self, model: &Model<A>, row: &Row<'_, A>) -> bool {
         self.has_place(row.place)
-            && (self.objects.is_none() || is_on_object)
+            && self.is_on_object(model, &row.step.event)
             && (!self.is_refused || !row.step.is_admitted())
     }
 
-    /// For each row whether it is wanted. With only refused events, also the rows that block them are.
-    pub fn rows<A: Handle>(&self, lanes: &Lanes<A>) -> Result<Vec<bool, A>, AllocError> {
+    /// The numbers of the rows that are wanted. With only refused events, also the rows that block them are.
+    pub fn rows<A: Handle>(&self, lanes: &Lanes<A>) -> Result<Vec<usize, A>, AllocError> {
         let alloc = lanes.run.allocator();
-        let objects = self.wanted_objects(alloc, lanes.run.machine().model())?;
+        let model = lanes.run.machine().model();
         let mut wanted = vec![in alloc; false; lanes.places.len()]?;
         for number in 0..lanes.places.len() {
             let Some(row) = lanes.row(number) else {
                 continue;
             };
-            if !self.has_row(&row, objects.as_slice()) {
+            if !self.has_row(model, &row) {
                 continue;
             }
-            want(&mut wanted, Some(number));
+            note(&mut wanted, number);
             if self.is_refused {
-                let blockers = lanes.blockers(number);
-                want(&mut wanted, lanes.row_of(blockers.first, number));
-                want(&mut wanted, lanes.row_of(blockers.second, number));
+                // (the row itself is wanted already)
+                let [first, second] = lanes.blockers(number);
+                note(&mut wanted, lanes.row_of(first, number).unwrap_or(number));
+                note(&mut wanted, lanes.row_of(second, number).unwrap_or(number));
             }
         }
-        Ok(wanted)
+        numbers_of(alloc, wanted.as_slice())
     }
 }
 
-// Notes that the row is wanted.
-fn want(wanted: &mut [bool], number: Option<usize>) {
-    if let Some(number) = number {
-        if let Some(is_wanted) = wanted.get_mut(number) {
-            *is_wanted = true;
+/// Notes a number in a list that has for each whether it is noted.
+pub fn note(noted: &mut [bool], number: usize) {
+    if let Some(is_noted) = noted.get_mut(number) {
+        *is_noted = true;
+    }
+}
+
+// The numbers that are noted.
+fn numbers_of<A: Handle>(alloc: A, noted: &[bool]) -> Result<Vec<usize, A>, AllocError> {
+    let mut numbers = Vec::new(alloc);
+    for (number, is_noted) in noted.iter().enumerate() {
+        if *is_noted {
+            numbers.push(number)?;
         }
     }
+    Ok(numbers)
 }
 
 /// Whether the model has an object with this name.

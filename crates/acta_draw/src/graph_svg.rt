@@ -1,16 +1,17 @@
 //! The waits-for graph and the dependency graph as an SVG: the transactions side by side, waits as arcs above them and edges
 //! as arcs below.
 
-use crate::graph::{Graph, put_status, put_wait};
+use crate::graph::{Graph, put_status};
 use crate::lanes::Lanes;
 use crate::markup::{
-    END, END_OF_GROUP, END_OF_TEXT, put_box, put_open, put_text, put_text_at, put_titled,
+    END, END_OF_GROUP, END_OF_TEXT, LINE, MARGIN, put_box, put_lines, put_open, put_sample,
+    put_text, put_text_at, put_titled,
 };
 use crate::notation::put_event;
-use crate::svg_layout::{MARGIN, label_width};
+use crate::svg_layout::label_width;
 use crate::wrapping::{put_cut, wrapped};
 use acta_machine::Handle;
-use acta_prose::{Prose, digits, put};
+use acta_prose::{Prose, Waits, digits, put};
 use acta_table::{Status, TxnId};
 use std::alloc::AllocError;
 
@@ -40,10 +41,8 @@ const LABEL: usize = 16;
 
 const BACK: usize = 12;
 
-// The height of a transaction, and of a line of words.
+// The height of a transaction.
 const NODE: usize = 24;
-
-const LINE: usize = 20;
 
 // An arc from one transaction to another.
 #[derive(Drop)]
@@ -172,19 +171,24 @@ fn place_of(txns: &[TxnId], t: TxnId) -> usize {
 // The arcs of the waits.
 fn wait_arcs<A: Handle>(lanes: &Lanes<A>, graph: &Graph<A>) -> Result<Arcs<A>, AllocError> {
     let alloc = lanes.run.allocator();
-    let closed = graph.closed(alloc)?;
+    let waits = &graph.waits;
     let mut arcs = Vec::new(alloc);
-    for (place, wait) in graph.waits.iter().enumerate() {
-        let row = graph.rows.get(place).copied().unwrap_or(0);
+    for (place, wait) in waits.waits.iter().enumerate() {
+        let row = waits.steps.get(place).copied().unwrap_or(0);
         let text = lanes.run.texts().get(row);
         let event = text.map_or("", |text| text.event.as_str());
-        let is_closed = closed.get(place) == Some(&true);
         arcs.push(Arc {
             from: place_of(graph.txns.as_slice(), wait.txn),
             to: place_of(graph.txns.as_slice(), wait.next),
-            class: if is_closed { "wait closed" } else { "wait" },
+            class: if waits.is_closed(place) {
+                "wait closed"
+            } else {
+                "wait"
+            },
             label: put_event(Prose::new(alloc), event, "", MOST_OF_LABEL).done()?,
-            title: put_wait(Prose::new(alloc), lanes, wait, row).done()?,
+            title: waits
+                .put_wait(Prose::new(alloc), lanes.run.lines(), place)
+                .done()?,
         })?;
     }
     Arcs::of(alloc, true, arcs)
@@ -234,6 +238,17 @@ const LINES: [(&str, &str, &str); 3] = [
 
 // The width of an entry of the legend.
 const ENTRY: usize = 210;
+
+// Adds the meaning of an entry of the legend.
+fn put_meaning<A: Handle>(out: Prose<A>, x: usize, y: usize, meaning: &str) -> Prose<A> {
+    put_text(
+        out,
+        "note",
+        x.saturating_add(36),
+        y.saturating_add(4),
+        meaning,
+    )
+}
 
 impl<'a, A: Handle> Sheet<'a, A> {
     // Where the transaction at this place is.
@@ -344,13 +359,7 @@ impl<'a, A: Handle> Sheet<'a, A> {
             if self.has_status(status) {
                 let (class, _) = look_of(status);
                 out = put_box(out, class, (x.saturating_add(14), y), (22, 16), 8);
-                out = put_text(
-                    out,
-                    "note",
-                    x.saturating_add(36),
-                    y.saturating_add(4),
-                    meaning,
-                );
+                out = put_meaning(out, x, y, meaning);
                 x = x.saturating_add(ENTRY);
             }
         }
@@ -364,16 +373,8 @@ impl<'a, A: Handle> Sheet<'a, A> {
             let waits = self.waits.arcs.iter().any(|arc| arc.class == class);
             let edges = self.edges.arcs.iter().any(|arc| arc.class == class);
             if waits || edges {
-                let (from, to) = (x.saturating_add(2), x.saturating_add(28));
-                out = put!(out; "<path class=\"", class, "\" d=\"M", from, " ", y, "H", to,
-                    "\" marker-end=\"url(#acta-draw-", head, ")\"/>\n");
-                out = put_text(
-                    out,
-                    "note",
-                    x.saturating_add(36),
-                    y.saturating_add(4),
-                    meaning,
-                );
+                out = put_sample(out, class, head, x.saturating_add(2), y);
+                out = put_meaning(out, x, y, meaning);
                 x = x.saturating_add(ENTRY);
             }
         }
@@ -389,8 +390,14 @@ impl<'a, A: Handle> Sheet<'a, A> {
         nodes.max(entries.saturating_add(MARGIN))
     }
 
-    // Adds the whole picture, below these lines and above the line that stopped the run.
-    fn put_all(&self, out: Prose<A>, head: &[String<A>], stop: &str) -> Prose<A> {
+    // Adds the whole picture, below these lines and the deadlocks, and above the line that stopped the run.
+    fn put_all(
+        &self,
+        out: Prose<A>,
+        counts: &[String<A>],
+        circles: &[String<A>],
+        stop: &str,
+    ) -> Prose<A> {
         let below = self
             .base
             .saturating_add(NODE)
@@ -399,17 +406,14 @@ impl<'a, A: Handle> Sheet<'a, A> {
         let statuses_y = lines_y.saturating_add(LINE + 6);
         let stop_y = statuses_y.saturating_add(LINE + 10);
         let foot = if stop.is_empty() { 0 } else { LINE };
-        let mut out = put_open(out, self.width(), stop_y.saturating_add(foot));
-        let mut y = LINE;
-        for line in head {
-            let class = if line.as_str().starts_with("deadlock") {
-                "code no"
-            } else {
-                "code"
-            };
-            out = put_text(out, class, MARGIN, y, line.as_str());
-            y = y.saturating_add(LINE);
-        }
+        let out = put_open(out, self.width(), stop_y.saturating_add(foot));
+        let out = put_lines(out, "code", LINE, counts);
+        let out = put_lines(
+            out,
+            "code no",
+            height_of(counts).saturating_add(LINE),
+            circles,
+        );
         let out = self.put_arcs(self.put_arcs(out, &self.edges), &self.waits);
         let out = self.put_nodes(out);
         let out = self.put_statuses(self.put_meanings(out, lines_y), statuses_y);
@@ -417,28 +421,24 @@ impl<'a, A: Handle> Sheet<'a, A> {
     }
 }
 
-// The lines above graphs of this width: how much they have, and the deadlocks.
-fn head_of<A: Handle>(
-    lanes: &Lanes<A>,
-    graph: &Graph<A>,
-    width: usize,
-) -> Result<Vec<String<A>, A>, AllocError> {
-    let alloc = lanes.run.allocator();
-    let counts = graph.put_counts(Prose::new(alloc), lanes).done()?;
-    let room = width.saturating_sub(2 * MARGIN) / 8;
-    let mut head = wrapped(alloc, counts.as_str(), room, false)?;
-    for circle in graph.circles.iter() {
-        head.push(
-            graph
-                .put_circle(Prose::new(alloc), circle.as_slice())
-                .done()?,
-        )?;
+// The height of these lines.
+fn height_of<A: Handle>(lines: &[String<A>]) -> usize {
+    lines.len().saturating_mul(LINE)
+}
+
+// The deadlocks, a line each.
+fn circles_of<A: Handle>(alloc: A, waits: &Waits<A>) -> Result<Vec<String<A>, A>, AllocError> {
+    let mut lines = Vec::new(alloc);
+    for circle in waits.circles.iter() {
+        let line = waits.put_circle(Prose::new(alloc), circle.as_slice());
+        lines.push(line.done()?)?;
     }
-    Ok(head)
+    Ok(lines)
 }
 
 /// The graphs as an SVG. The line that stopped the run, if one did, is below.
 pub fn draw_graph_svg<A: Handle>(lanes: &Lanes<A>, stop: &str) -> Result<String<A>, AllocError> {
+    let alloc = lanes.run.allocator();
     let graph = Graph::of(lanes, MOST_ARROWS)?;
     let waits = wait_arcs(lanes, &graph)?;
     let edges = edge_arcs(lanes, &graph)?;
@@ -451,14 +451,17 @@ pub fn draw_graph_svg<A: Handle>(lanes: &Lanes<A>, stop: &str) -> Result<String<
         gap,
         base: 0,
     };
-    let head = head_of(lanes, &graph, sheet.width())?;
-    let above = head.len().saturating_mul(LINE).saturating_add(NODE * 2);
-    sheet.base = sheet.waits.extent().saturating_add(above);
+    let counts = graph.put_counts(Prose::new(alloc), lanes).done()?;
+    let room = sheet.width().saturating_sub(2 * MARGIN) / 8;
+    let counts = wrapped(alloc, counts.as_str(), room, false)?;
+    let circles = circles_of(alloc, &graph.waits)?;
+    let above = height_of(&counts).saturating_add(height_of(&circles));
+    sheet.base = sheet
+        .waits
+        .extent()
+        .saturating_add(above)
+        .saturating_add(NODE * 2);
     sheet
-        .put_all(
-            Prose::new(lanes.run.allocator()),
-            head.as_slice(),
-            stop.trim_end(),
-        )
+        .put_all(Prose::new(alloc), &counts, &circles, stop.trim_end())
         .done()
 }

@@ -1,7 +1,7 @@
 //! The waits-for graph and the dependency graph as a text for a terminal.
 
 use crate::canvas::Ink;
-use crate::graph::{Graph, put_status, put_wait};
+use crate::graph::{Graph, put_status};
 use crate::lanes::Lanes;
 use crate::screen::Screen;
 use crate::text::put_notice;
@@ -49,22 +49,24 @@ impl<'a, A: Handle> Listing<'a, A> {
 
     // Adds the waits-for graph.
     fn put_waits(&self, text: Prose<A>) -> Prose<A> {
-        if self.graph.waits.is_empty() {
+        let waits = &self.graph.waits;
+        if waits.waits.is_empty() {
             return text;
         }
         let mut text = text.put("\nWaits-for graph:\n");
-        for (wait, row) in self.graph.waits.iter().zip(self.graph.rows.iter()) {
+        for (place, wait) in waits.waits.iter().enumerate() {
             let item = put!(Prose::new(self.alloc); wait.txn.0, " -> ", wait.next.0, "  ");
-            text = self.put_item(text, put_wait(item, self.lanes, wait, *row), Ink::Plain);
+            let item = waits.put_wait(item, self.lanes.run.lines(), place);
+            text = self.put_item(text, item, Ink::Plain);
         }
         self.put_circles(text)
     }
 
     // Adds the deadlocks.
     fn put_circles(&self, mut text: Prose<A>) -> Prose<A> {
-        for circle in self.graph.circles.iter() {
-            let item = Prose::new(self.alloc);
-            let item = self.graph.put_circle(item, circle.as_slice());
+        let waits = &self.graph.waits;
+        for circle in waits.circles.iter() {
+            let item = waits.put_circle(Prose::new(self.alloc), circle.as_slice());
             text = self.put_item(text, item, Ink::Bad);
         }
         text

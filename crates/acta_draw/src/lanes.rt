@@ -1,16 +1,16 @@
 //! The run of an input as lanes and rows: a row for each event with its answer, what it formed and why it was refused,
 //! and for each transaction from which row to which its lane goes.
 
-ghost use Rattle.std.specs.Prelude.{◌≡◌, false, map, slice_get, None, Some, IfOk, IfSome, OnOk};
-ghost use Rattle.acta_prose.specs.Runs.{noted_all};
+ghost use Rattle.std.specs.Prelude.{◌≡◌, map, slice_get, Some, IfOk, IfSome};
+ghost use Rattle.acta_prose.specs.Runs.{noted_up_to};
 ghost use Rattle.acta_trace.specs.Traces.{not_begun};
 ghost use Rattle.acta_draw.specs.Rows.{last_place, place_after, places_from, returned};
 
-use crate::blockers::{Blocker, Blockers, blockers_of};
+use crate::blockers::{Blocker, blockers_of};
 use crate::marks::{Figure, figure_of};
 use acta_hope::heir;
-use acta_io::{BadLine, Input, NonBlankLine};
-use acta_machine::{Handle, Machine};
+use acta_io::{BadLine, Input};
+use acta_machine::Handle;
 use acta_prose::{RunTrace, StepText};
 use acta_table::{Answer, Edge, Event, Model, Owed, Ret, TxnId};
 use acta_trace::{Step, Steps};
@@ -33,30 +33,6 @@ pub struct Row<'a, A: Handle> {
 }
 
 impl<'a, A: Handle> Row<'a, A> {
-    // The row of a step, whose event has this place, or would have had it. All edges of the run are given.
-    fn of(
-        number: usize,
-        step: &'a Step<A>,
-        text: &'a StepText<A>,
-        place: u32,
-        heir: Option<TxnId>,
-        edges: &'a [Edge],
-    ) -> Row<'a, A>
-        ensures step { result.step.now ≡ step.now }
-        ensures place { result.place ≡ place }
-    {
-        Row {
-            number,
-            step,
-            text,
-            place,
-            figure: figure_of(step, heir),
-            formed: edges
-                .get(step.edges_before..step.edges_after)
-                .unwrap_or(&[]),
-        }
-    }
-
     /// Whether the event forms a dependency.
     pub fn is_form(&self) -> bool {
         matches!(self.step.event, Event::Form(_, _, _))
@@ -106,45 +82,6 @@ fn places_of<A: Handle>(alloc: A, steps: &[Step<A>]) -> Result<Vec<u32, A>, Allo
     Ok(places)
 }
 
-// Whether the event would have a place after the last one.
-fn is_after<A: Handle>(
-    machine: &Machine<A>,
-    last: Option<u32>,
-    event: &Event<A>,
-) -> Result<bool, AllocError>
-    ensures { last ≡ None → IfOk result (λ is_after. is_after ≡ false) }
-{
-    match last {
-        Some(last) if machine.history().len() >= last as usize => {
-            Ok(machine.why(event)?.is_none())
-        }
-        _ => Ok(false),
-    }
-}
-
-// Takes the events, each with its line, up to the last place.
-fn take_all<A: Handle>(
-    run: &mut RunTrace<A>,
-    events: Vec<Event<A>, A>,
-    lines: &[NonBlankLine<'_>],
-    last: Option<u32>,
-) -> Result<(), AllocError>
-    ensures { last ≡ None → OnOk result (run.new ≡ noted_all run.old (map (λ line. line.line) lines.now) events.items) }
-{
-    let mut next = 0;
-    for event in events {
-        let Some(line) = lines.get(next) else {
-            return Ok(());
-        };
-        if is_after(run.machine(), last, &event)? {
-            return Ok(());
-        }
-        run.take(*line, event)?;
-        next += 1;
-    }
-    Ok(())
-}
-
 /// A run of an input, as what is drawn of it.
 #[derive(Drop)]
 pub struct Lanes<A: Handle> {
@@ -166,7 +103,7 @@ impl<A: Handle> Lanes<A> {
         read: Input<'_, Event<A>, A>,
         last: Option<u32>,
     ) -> Result<Lanes<A>, AllocError>
-        ensures run { last ≡ None → IfOk result (λ lanes. lanes.run ≡ noted_all (not_begun model) (map (λ line. line.line) read.entry.lines.items) read.entry.parsed.items) }
+        ensures run { IfOk result (λ lanes. lanes.run ≡ noted_up_to last (not_begun model) (map (λ line. line.line) read.entry.lines.items) read.entry.parsed.items) }
         ensures places { IfOk result (λ lanes. lanes.places.items ≡ places_from 0 lanes.run.steps) }
     {
         let Input {
@@ -175,7 +112,7 @@ impl<A: Handle> Lanes<A> {
             stop,
         } = read;
         let mut run = RunTrace::new(alloc, model)?;
-        take_all(&mut run, parsed, lines.as_slice(), last)?;
+        run.take_up_to(parsed, lines.as_slice(), last)?;
         let places = places_of(alloc, run.steps())?;
         let owed = if stop.is_none() {
             run.machine().owed()?
@@ -191,10 +128,10 @@ impl<A: Handle> Lanes<A> {
     }
 
     /// The blockers of the event of a row.
-    pub fn blockers(&self, number: usize) -> Blockers {
+    pub fn blockers(&self, number: usize) -> [Option<Blocker>; 2] {
         match (self.run.steps().get(number), self.run.reason(number)) {
             (Some(step), Some(reason)) => blockers_of(&step.event, reason),
-            _ => Blockers::NONE,
+            _ => [None, None],
         }
     }
 
@@ -217,7 +154,17 @@ impl<A: Handle> Lanes<A> {
         };
         let text = self.run.texts().get(number)?;
         let place = *self.places.get(number)?;
-        Some(Row::of(number, step, text, place, heir, machine.edges()))
+        Some(Row {
+            number,
+            step,
+            text,
+            place,
+            figure: figure_of(step, heir),
+            formed: machine
+                .edges()
+                .get(step.edges_before..step.edges_after)
+                .unwrap_or(&[]),
+        })
     }
 
     /// The steps, by which the rows are found that began and ended a transaction.

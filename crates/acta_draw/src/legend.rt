@@ -4,35 +4,32 @@ ghost use Rattle.std.specs.Prelude.{◌<◌};
 
 use crate::lanes::{Lanes, Row};
 use crate::marks::{Mark, Marked, Tie};
-use crate::markup::{put_circle, put_text};
-use crate::notation::{NOTATIONS, Notation, notation_of};
+use crate::markup::{MARGIN, put_circle, put_sample, put_text};
 use crate::svg::put_mark;
-use crate::svg_layout::{MARGIN, RowBox, box_width, note_width};
+use crate::svg_layout::{RowBox, box_width, note_width};
 use acta_machine::Handle;
-use acta_prose::{Prose, put};
-use acta_table::{Event, OpNo, TxnId};
+use acta_prose::{Prose, operation_kind};
+use acta_script::OpKind;
+use acta_table::{Event, Op, OpNo, TxnId};
 use std::alloc::AllocError;
 
-// The mark, line or notation that an entry explains.
+/// The mark, line or operation that a legend explains.
 #[derive(Clone, Copy)]
-enum Sign {
+pub enum Sign {
     Mark(Mark),
-    // An operation in this notation, with an example.
-    Operation(Notation, &'static str),
+    /// An operation of this kind, with an example of its notation.
+    Operation(OpKind, &'static str),
     Tie,
     Permit,
     Edge,
     Block,
 }
 
-/// An entry of a legend.
-#[derive(Clone, Copy)]
-pub struct Entry {
-    sign: Sign,
-    meaning: &'static str,
-}
+/// An entry of a legend: a sign, and its meaning.
+pub type Entry = (Sign, &'static str);
 
-const FIRST: [(Sign, &str); 7] = [
+// All entries.
+const ENTRIES: [Entry; 19] = [
     (Sign::Mark(Mark::Start), "starts"),
     (Sign::Mark(Mark::Committed), "commits"),
     (Sign::Mark(Mark::Aborted), "aborts"),
@@ -40,34 +37,39 @@ const FIRST: [(Sign, &str); 7] = [
     (Sign::Mark(Mark::Point), "acts on another"),
     (Sign::Mark(Mark::Met), "is acted on"),
     (Sign::Mark(Mark::Refused), "is refused"),
-];
-
-const LAST: [(Sign, &str); 3] = [
+    (Sign::Operation(OpKind::Write, "x:=5"), "writes 5 to x"),
+    (Sign::Operation(OpKind::Read, "x?=5"), "reads x, gets 5"),
+    (Sign::Operation(OpKind::Add, "n+5"), "adds 5 to n"),
+    (
+        Sign::Operation(OpKind::Insert, "s+{5}=yes"),
+        "adds element 5: was absent",
+    ),
+    (
+        Sign::Operation(OpKind::Remove, "s-{5}=yes"),
+        "removes 5: was there",
+    ),
+    (
+        Sign::Operation(OpKind::Has, "s?{5}=no"),
+        "asks for 5: not there",
+    ),
+    (Sign::Operation(OpKind::Size, "s?#=5"), "counts s, gets 5"),
+    (Sign::Block, "is blocked by"),
     (Sign::Tie, "starts, hands over"),
     (Sign::Permit, "permits"),
     (Sign::Edge, "depends on (e: edge)"),
+    (Sign::Mark(Mark::Owes), "owes in the end"),
 ];
 
-const BLOCK: Entry = Entry {
-    sign: Sign::Block,
-    meaning: "is blocked by",
-};
-
-const OWES: Entry = Entry {
-    sign: Sign::Mark(Mark::Owes),
-    meaning: "owes in the end",
-};
-
-// The height of a line of entries.
-const LINE: usize = 26;
+// The height of a row of entries.
+const ENTRY: usize = 26;
 
 // The width of an entry: that of the widest, and a gap.
 fn entry_width(entries: &[Entry]) -> usize
     ensures { 0 < result }
 {
     let mut widest = 0usize;
-    for entry in entries {
-        let width = sign_width(entry.sign).saturating_add(note_width(entry.meaning));
+    for (sign, meaning) in entries {
+        let width = sign_width(*sign).saturating_add(note_width(meaning));
         widest = widest.max(width);
     }
     widest.saturating_add(32)
@@ -85,7 +87,7 @@ pub fn height(entries: &[Entry], width: usize) -> usize {
     entries
         .len()
         .div_ceil(beside(entries, width))
-        .saturating_mul(LINE)
+        .saturating_mul(ENTRY)
         .saturating_add(MARGIN)
 }
 
@@ -96,8 +98,8 @@ fn occurs_in<A: Handle>(sign: Sign, row: &Row<'_, A>, row_box: &RowBox<A>) -> bo
     match sign {
         Sign::Mark(Mark::Start) => row.step.began().is_some(),
         Sign::Mark(mark) => row.figure.actor.mark == mark || met == Some(mark),
-        Sign::Operation(notation, _) => match row.step.event {
-            Event::Operate(_, _, op) => row.step.is_admitted() && notation_of(op) == notation,
+        Sign::Operation(kind, _) => match row.step.event {
+            Event::Operate(_, _, op) => row.step.is_admitted() && shown_kind(op) == kind,
             _ => false,
         },
         Sign::Tie => tie == Some(Tie::Starts) || tie == Some(Tie::Hands),
@@ -107,34 +109,20 @@ fn occurs_in<A: Handle>(sign: Sign, row: &Row<'_, A>, row_box: &RowBox<A>) -> bo
     }
 }
 
-// Whether the sign occurs in a row.
-fn occurs<A: Handle>(sign: Sign, lanes: &Lanes<A>, boxes: &[RowBox<A>]) -> bool {
-    for row_box in boxes {
-        if let Some(row) = lanes.row(row_box.number) {
-            if occurs_in(sign, &row, row_box) {
-                return true;
-            }
-        }
+// The kind of the operation; a `get` is shown as a `read`.
+fn shown_kind(op: Op) -> OpKind {
+    match operation_kind(op) {
+        OpKind::Get => OpKind::Read,
+        kind => kind,
     }
-    false
 }
 
-// Adds the entries whose signs occur.
-fn add_entries<A: Handle>(
-    entries: &mut Vec<Entry, A>,
-    candidates: &[(Sign, &'static str)],
-    lanes: &Lanes<A>,
-    boxes: &[RowBox<A>],
-) -> Result<(), AllocError> {
-    for (sign, meaning) in candidates {
-        if occurs(*sign, lanes, boxes) {
-            entries.push(Entry {
-                sign: *sign,
-                meaning: *meaning,
-            })?;
-        }
-    }
-    Ok(())
+// Whether the sign occurs in a row.
+fn occurs<A: Handle>(sign: Sign, lanes: &Lanes<A>, boxes: &[RowBox<A>]) -> bool {
+    boxes.iter().any(|row_box| {
+        let row = lanes.row(row_box.number);
+        row.is_some_and(|row| occurs_in(sign, &row, row_box))
+    })
 }
 
 /// The entries whose signs occur in the rows, those of lines to blockers and of debts where there are some.
@@ -145,17 +133,15 @@ pub fn entries_of<A: Handle>(
     has_debts: bool,
 ) -> Result<Vec<Entry, A>, AllocError> {
     let mut entries = Vec::new(lanes.run.allocator());
-    add_entries(&mut entries, &FIRST, lanes, boxes)?;
-    for (notation, example, meaning) in NOTATIONS {
-        let sign = Sign::Operation(notation, example);
-        add_entries(&mut entries, &[(sign, meaning)], lanes, boxes)?;
-    }
-    if has_blocks {
-        entries.push(BLOCK)?;
-    }
-    add_entries(&mut entries, &LAST, lanes, boxes)?;
-    if has_debts {
-        entries.push(OWES)?;
+    for (sign, meaning) in ENTRIES {
+        let is_due = match sign {
+            Sign::Block => has_blocks,
+            Sign::Mark(Mark::Owes) => has_debts,
+            sign => occurs(sign, lanes, boxes),
+        };
+        if is_due {
+            entries.push((sign, meaning))?;
+        }
     }
     Ok(entries)
 }
@@ -163,7 +149,7 @@ pub fn entries_of<A: Handle>(
 // Adds the sign of an entry, whose left end is here.
 fn put_sign<A: Handle>(out: Prose<A>, sign: Sign, left: usize, y: usize) -> Prose<A> {
     let txn = TxnId(1);
-    let (from, to) = (left.saturating_add(2), left.saturating_add(28));
+    let from = left.saturating_add(2);
     let (class, head, out) = match sign {
         Sign::Mark(mark) => {
             return put_mark(out, Marked { txn, mark }, "", left.saturating_add(14), y);
@@ -178,8 +164,7 @@ fn put_sign<A: Handle>(out: Prose<A>, sign: Sign, left: usize, y: usize) -> Pros
         Sign::Edge => ("edge", "edge", put_circle(out, "foot", from, y, 3)),
         Sign::Block => ("block", "block", out),
     };
-    put!(out; "<path class=\"", class, "\" d=\"M", from, " ", y, "H", to,
-        "\" marker-end=\"url(#acta-draw-", head, ")\"/>\n")
+    put_sample(out, class, head, from, y)
 }
 
 // The width of the sign of an entry.
@@ -199,14 +184,14 @@ pub fn put_legend<A: Handle>(
 ) -> Prose<A> {
     let beside = beside(entries, width);
     let entry_width = entry_width(entries);
-    for (place, entry) in entries.iter().enumerate() {
+    for (place, (sign, meaning)) in entries.iter().enumerate() {
         let x = (place % beside)
             .saturating_mul(entry_width)
             .saturating_add(MARGIN);
-        let y = (place / beside).saturating_mul(LINE).saturating_add(top);
-        out = put_sign(out, entry.sign, x, y);
-        let words_x = x.saturating_add(sign_width(entry.sign)).saturating_add(8);
-        out = put_text(out, "note", words_x, y.saturating_add(4), entry.meaning);
+        let y = (place / beside).saturating_mul(ENTRY).saturating_add(top);
+        out = put_sign(out, *sign, x, y);
+        let words_x = x.saturating_add(sign_width(*sign)).saturating_add(8);
+        out = put_text(out, "note", words_x, y.saturating_add(4), meaning);
     }
     out
 }

@@ -3,6 +3,12 @@
 use acta_prose::{Prose, put};
 use std::alloc::Allocator;
 
+/// The margin round a picture.
+pub const MARGIN: usize = 16;
+
+/// The height of a line of words above or below a picture.
+pub const LINE: usize = 20;
+
 /// How the parts of a picture look.
 pub const STYLE: &str = "\
 .acta-draw{background:#fff;font:12px system-ui,-apple-system,'Segoe UI',Roboto,'DejaVu Sans',sans-serif}
@@ -118,6 +124,33 @@ pub fn put_line<A: Allocator>(
 ) -> Prose<A> {
     put!(out; "<line class=\"", class, "\" x1=\"", from.0, "\" y1=\"", from.1, "\" x2=\"", to.0,
         "\" y2=\"", to.1, "\"/>\n")
+}
+
+/// Adds a short arrow from a point to the right, with this head, as an example of the lines of a class.
+pub fn put_sample<A: Allocator>(
+    out: Prose<A>,
+    class: &str,
+    head: &str,
+    x: usize,
+    y: usize,
+) -> Prose<A> {
+    put!(out; "<path class=\"", class, "\" d=\"M", x, " ", y, "H", x.saturating_add(26),
+        "\" marker-end=\"url(#acta-draw-", head, ")\"/>\n")
+}
+
+/// Adds lines of words, one below the other from this height on.
+pub fn put_lines<A: Allocator>(
+    mut out: Prose<A>,
+    class: &str,
+    top: usize,
+    lines: &[String<A>],
+) -> Prose<A> {
+    let mut y = top;
+    for line in lines {
+        out = put_text(out, class, MARGIN, y, line.as_str());
+        y = y.saturating_add(LINE);
+    }
+    out
 }
 
 /// Adds a circle.

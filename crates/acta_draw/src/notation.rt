@@ -14,42 +14,6 @@ const MOST_OF_NAME: usize = 12;
 
 const LEAST_OF_NAME: usize = 4;
 
-/// The form of an operation's notation.
-#[derive(Clone, Copy, PartialEq, Eq, Debug)]
-pub enum Notation {
-    Write,
-    Read,
-    Add,
-    Insert,
-    Remove,
-    Has,
-    Size,
-}
-
-/// All forms, each with an example and its meaning.
-pub const NOTATIONS: [(Notation, &str, &str); 7] = [
-    (Notation::Write, "x:=5", "writes 5 to x"),
-    (Notation::Read, "x?=5", "reads x, gets 5"),
-    (Notation::Add, "n+5", "adds 5 to n"),
-    (Notation::Insert, "s+{5}=yes", "adds element 5: was absent"),
-    (Notation::Remove, "s-{5}=yes", "removes 5: was there"),
-    (Notation::Has, "s?{5}=no", "asks for 5: not there"),
-    (Notation::Size, "s?#=5", "counts s, gets 5"),
-];
-
-/// The form of the operation's notation.
-pub fn notation_of(op: Op) -> Notation {
-    match op {
-        Op::Write(_) => Notation::Write,
-        Op::Read | Op::Get => Notation::Read,
-        Op::Add(_) => Notation::Add,
-        Op::Insert(_) => Notation::Insert,
-        Op::Remove(_) => Notation::Remove,
-        Op::Has(_) => Notation::Has,
-        Op::Size => Notation::Size,
-    }
-}
-
 // Adds the sign of the operation, and its argument.
 fn put_sign<A: Allocator>(prose: Prose<A>, op: Op) -> Prose<A> {
     match op {
@@ -64,14 +28,6 @@ fn put_sign<A: Allocator>(prose: Prose<A>, op: Op) -> Prose<A> {
     }
 }
 
-// Adds the return, if it says more than that the operation was done.
-fn put_answer<A: Allocator>(prose: Prose<A>, ret: Option<Ret>) -> Prose<A> {
-    match ret {
-        None | Some(Ret::Done) => prose,
-        Some(ret) => put_return(prose.put("="), ret),
-    }
-}
-
 /// The notation of the operation that a row does, if it does one. A long name is cut.
 pub fn operation_label<A: Handle>(
     alloc: A,
@@ -83,7 +39,11 @@ pub fn operation_label<A: Handle>(
     };
     let name = name_text(object_name(model, object));
     let label = put_cut(Prose::new(alloc), name, MOST_OF_NAME);
-    put_answer(put_sign(label, op), returned(&row.step.answer)).done()
+    let label = put_sign(label, op);
+    match returned(&row.step.answer) {
+        None | Some(Ret::Done) => label.done(),
+        Some(ret) => put_return(label.put("="), ret).done(),
+    }
 }
 
 /// Adds an event, at most so wide. The name of the object of an operation is cut before its argument and its return are.

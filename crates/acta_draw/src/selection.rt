@@ -1,6 +1,6 @@
 //! The lanes and the rows of a choice.
 
-use crate::choice::Choice;
+use crate::choice::{Choice, note};
 use crate::columns::Columns;
 use crate::lanes::{Lanes, Row};
 use crate::marks::has_lane;
@@ -50,9 +50,18 @@ pub struct Selection<A: Handle> {
 
 /// Notes that something is drawn of the transaction.
 pub fn name(named: &mut [bool], t: TxnId) {
-    if let Some(is_named) = named.get_mut(usize::from(t.0)) {
-        *is_named = true;
+    note(named, usize::from(t.0));
+}
+
+/// The transactions that are named, by number.
+pub fn txns_named<A: Handle>(alloc: A, named: &[bool]) -> Result<Vec<TxnId, A>, AllocError> {
+    let mut txns = Vec::new(alloc);
+    for number in 1..=LAST_TXN {
+        if named.get(usize::from(number)) == Some(&true) {
+            txns.push(TxnId(number))?;
+        }
     }
+    Ok(txns)
 }
 
 impl<A: Handle> Selection<A> {
@@ -71,11 +80,12 @@ impl<A: Handle> Selection<A> {
             named: vec![in alloc; choice.txns.is_none(); TABLE_SIZE]?,
         };
         let mut txns = selection.name_chosen(choice, alloc)?;
-        let wanted = choice.rows(lanes)?;
-        selection.add_rows(lanes, wanted.as_slice())?;
+        selection.rows = selection.touched(lanes, choice.rows(lanes)?.as_slice())?;
+        selection.chosen = selection.rows.len();
         selection.keep_page(choice.page, alloc)?;
         if choice.txns.is_none() {
-            txns = selection.name_drawn(lanes)?;
+            selection.named = drawn_txns(lanes, selection.rows.as_slice(), selection.has_end)?;
+            txns = txns_named(alloc, selection.named.as_slice())?;
             selection.is_reused = choice.is_reusing || MOST_OWN_LANES < txns.len();
         }
         selection.wanted = txns.len();
@@ -98,20 +108,17 @@ impl<A: Handle> Selection<A> {
         Ok(txns)
     }
 
-    // Adds the rows that are wanted, and of the named transactions.
-    fn add_rows(&mut self, lanes: &Lanes<A>, wanted: &[bool]) -> Result<(), AllocError> {
-        for (number, is_wanted) in wanted.iter().enumerate() {
-            if !*is_wanted {
-                continue;
-            }
-            if let Some(row) = lanes.row(number) {
+    // Those of the rows of which something is on a lane.
+    fn touched(&self, lanes: &Lanes<A>, rows: &[usize]) -> Result<Vec<usize, A>, AllocError> {
+        let mut touched = Vec::new(lanes.run.allocator());
+        for number in rows {
+            if let Some(row) = lanes.row(*number) {
                 if self.touches(&row) {
-                    self.rows.push(number)?;
+                    touched.push(*number)?;
                 }
             }
         }
-        self.chosen = self.rows.len();
-        Ok(())
+        Ok(touched)
     }
 
     // Keeps the rows of the page, where one is asked for. The end is on the last page.
@@ -130,18 +137,6 @@ impl<A: Handle> Selection<A> {
         self.has_end = self.has_end && page == pages;
         self.page = Some(PageNumber { page, pages });
         Ok(())
-    }
-
-    // Names only the transactions of which something is drawn, and lists them by number.
-    fn name_drawn(&mut self, lanes: &Lanes<A>) -> Result<Vec<TxnId, A>, AllocError> {
-        self.named = drawn_txns(lanes, self.rows.as_slice(), self.has_end)?;
-        let mut txns = Vec::new(lanes.run.allocator());
-        for number in 1..=LAST_TXN {
-            if self.is_named(TxnId(number)) {
-                txns.push(TxnId(number))?;
-            }
-        }
-        Ok(txns)
     }
 
     // Adds a lane for each of the transactions, as long as there is room.
@@ -173,14 +168,7 @@ impl<A: Handle> Selection<A> {
         for t in self.lanes.iter() {
             name(&mut self.named, *t);
         }
-        let rows = std::mem::replace(&mut self.rows, Vec::new(alloc));
-        for number in rows.iter() {
-            if let Some(row) = lanes.row(*number) {
-                if self.touches(&row) {
-                    self.rows.push(*number)?;
-                }
-            }
-        }
+        self.rows = self.touched(lanes, self.rows.as_slice())?;
         Ok(())
     }
 

@@ -7,17 +7,17 @@ use crate::lanes::{Lanes, Row};
 use crate::legend::{Entry, entries_of, height, put_legend};
 use crate::marks::{Mark, Marked, Tie, has_lane};
 use crate::markup::{
-    END, END_OF_GROUP, END_OF_TEXT, put_box, put_circle, put_line, put_open, put_text, put_text_at,
-    put_titled,
+    END, END_OF_GROUP, END_OF_TEXT, LINE, MARGIN, put_box, put_circle, put_line, put_lines,
+    put_open, put_text, put_text_at, put_titled,
 };
 use crate::selection::Selection;
 use crate::sentences::{put_debt, put_debt_note, put_left_out, title_of};
 use crate::svg_layout::{
-    HEADS, MARGIN, MIDDLE, NEXT_WORDS, PLACE_X, ROW, RowBox, SvgLayout, box_width,
+    HEADS, MIDDLE, NEXT_WORDS, PLACE_X, ROW, RowBox, SvgLayout, aside, box_width,
 };
 use crate::wrapping::{put_cut, wrapped};
 use acta_machine::Handle;
-use acta_prose::{Prose, digits, name_text, put};
+use acta_prose::{Prose, digits, put};
 use acta_script::owed_line;
 use acta_table::{Owed, TxnId};
 use std::alloc::AllocError;
@@ -28,18 +28,13 @@ const NOWHERE_X: usize = 24;
 // How high the boxes and circles of marks are.
 const MARK: usize = 18;
 
-// The height of a line below the rows.
-const FOOT: usize = 20;
-
 // The most lanes that a picture has, as many as there can be transactions.
 const ALL_LANES: usize = 16_384;
 
 // What a picture is of.
 #[derive(Drop)]
 struct Drawn<'a, A: Handle> {
-    lanes: &'a Lanes<A>,
-    selection: &'a Selection<A>,
-    layout: &'a SvgLayout<A>,
+    layout: SvgLayout<'a, A>,
     blocks: Vec<Block, A>,
     debts: Vec<Owed, A>,
     legend: Vec<Entry, A>,
@@ -98,7 +93,7 @@ fn put_cross<A: Handle>(out: Prose<A>, class: &str, x: usize, y: usize) -> Prose
 impl<'a, A: Handle> Drawn<'a, A> {
     // From where to where the lane goes in the picture, where some of it is in it.
     fn extent(&self, t: TxnId, bottom: usize) -> Option<(usize, usize)> {
-        let steps = self.lanes.steps();
+        let steps = self.layout.lanes.steps();
         let top = HEADS.saturating_sub(4);
         let from = self.layout.row_y(steps.begin_of(t)?, top, bottom);
         let to = match steps.end_of(t) {
@@ -108,19 +103,14 @@ impl<'a, A: Handle> Drawn<'a, A> {
         if from < to { Some((from, to)) } else { None }
     }
 
-    // Where the lane of the transaction is.
-    fn x(&self, t: TxnId) -> Option<usize> {
-        Some(self.layout.lane_x(self.selection.column(t)?))
-    }
-
     // Adds the lanes, which end at the bottom where they haven't ended.
     fn put_lanes(&self, mut out: Prose<A>, bottom: usize) -> Prose<A> {
-        for column in 0..self.selection.columns.heads.len() {
+        for column in 0..self.layout.selection.columns.heads.len() {
             let x = self.layout.lane_x(column);
             out = put_line(out, "guide", (x, HEADS), (x, bottom));
         }
-        for t in self.selection.lanes.iter() {
-            if let (Some(x), Some((from, to))) = (self.x(*t), self.extent(*t, bottom)) {
+        for t in self.layout.selection.lanes.iter() {
+            if let (Some(x), Some((from, to))) = (self.layout.x(*t), self.extent(*t, bottom)) {
                 out = put_line(out, "lane", (x, from), (x, to));
             }
         }
@@ -130,7 +120,7 @@ impl<'a, A: Handle> Drawn<'a, A> {
     // Adds the head of a lane: the number of the transaction, and its class.
     fn put_head(&self, out: Prose<A>, t: TxnId, x: usize, y: usize) -> Prose<A> {
         let most = self.layout.gap.saturating_sub(8) / 7;
-        let class = self.lanes.class_name(t);
+        let class = self.layout.lanes.class_name(t);
         let out = put!(out; "<g><title>transaction ", t.0);
         let out = match class {
             Some(class) => put!(out; ", of the class ", class),
@@ -158,7 +148,7 @@ impl<'a, A: Handle> Drawn<'a, A> {
         let out = put_text(out, "place", PLACE_X, y, "place");
         let mut out = put_text(out, "note", self.layout.words_x, y, "event");
         for (column, t) in heads.iter().enumerate() {
-            if !self.selection.columns.is_over(*t, row) {
+            if !self.layout.selection.columns.is_over(*t, row) {
                 out = self.put_head(out, *t, self.layout.lane_x(column), y);
             }
         }
@@ -168,7 +158,12 @@ impl<'a, A: Handle> Drawn<'a, A> {
     // Adds the heads above the rows that have some.
     fn put_all_heads(&self, mut out: Prose<A>) -> Prose<A> {
         if self.layout.boxes.is_empty() {
-            return self.put_heads(out, self.selection.columns.heads.as_slice(), HEADS, 0);
+            return self.put_heads(
+                out,
+                self.layout.selection.columns.heads.as_slice(),
+                HEADS,
+                0,
+            );
         }
         for row_box in self.layout.boxes.iter() {
             if !row_box.heads.is_empty() {
@@ -187,7 +182,10 @@ impl<'a, A: Handle> Drawn<'a, A> {
         let Some((partner, tie)) = row.figure.partner else {
             return out;
         };
-        match (self.x(row.figure.actor.txn), self.x(partner.txn)) {
+        match (
+            self.layout.x(row.figure.actor.txn),
+            self.layout.x(partner.txn),
+        ) {
             (Some(from), Some(to)) => put_curve(out, tie, from, to, y, partner.txn),
             _ => out,
         }
@@ -195,15 +193,11 @@ impl<'a, A: Handle> Drawn<'a, A> {
 
     // Adds an arrow, with its label beside the lane of the one that depends. It ends so far beside the lane.
     fn put_arrow(&self, out: Prose<A>, arrow: &Arrow<A>, y: usize, beside: usize) -> Prose<A> {
-        let (Some(from), Some(to)) = (self.x(arrow.j), self.x(arrow.i)) else {
+        let (Some(from), Some(to)) = (self.layout.x(arrow.j), self.layout.x(arrow.i)) else {
             return out;
         };
-        let half = self.layout.gap / 2;
-        let (end, label) = if from < to {
-            (to.saturating_sub(beside), from.saturating_add(half))
-        } else {
-            (to.saturating_add(beside), from.saturating_sub(half))
-        };
+        let end = aside(to, from >= to, beside);
+        let label = aside(from, from < to, self.layout.gap / 2);
         let out = put_titled(out, arrow.title.as_str());
         let out = put_circle(out, "foot", from, y, 3);
         let out = put!(out; "<path class=\"edge\" d=\"M", from, " ", y, "H", end,
@@ -217,7 +211,7 @@ impl<'a, A: Handle> Drawn<'a, A> {
     // Adds a mark, where its lane is drawn. An operation has this label.
     fn put_marked(&self, out: Prose<A>, marked: Marked, label: &str, y: usize) -> Prose<A> {
         let x = if has_lane(marked.txn) {
-            self.x(marked.txn)
+            self.layout.x(marked.txn)
         } else {
             // (a number that no transaction has is of no lane)
             Some(NOWHERE_X)
@@ -257,10 +251,10 @@ impl<'a, A: Handle> Drawn<'a, A> {
 
     // Adds a row: its tie, its arrows, its marks, each of which says what happens at it, and its words.
     fn put_row(&self, out: Prose<A>, row_box: &RowBox<A>) -> Prose<A> {
-        let Some(row) = self.lanes.row(row_box.number) else {
+        let Some(row) = self.layout.lanes.row(row_box.number) else {
             return out;
         };
-        let Ok(title) = title_of(self.lanes, &row) else {
+        let Ok(title) = title_of(self.layout.lanes, &row) else {
             return out.fail();
         };
         let y = row_box.y;
@@ -290,18 +284,16 @@ impl<'a, A: Handle> Drawn<'a, A> {
 
     // Adds a debt, at this line.
     fn put_owed(&self, out: Prose<A>, owed: &Owed, y: usize) -> Prose<A> {
-        let Ok(line) = owed_line(self.lanes.run.allocator(), owed) else {
-            return out.fail();
-        };
+        let line = owed_line(self.layout.lanes.run.allocator(), owed);
         let marked = Marked {
             txn: owed.txn,
             mark: Mark::Owes,
         };
-        let out = put_debt(out.put("<g><title>"), self.lanes, owed).put("</title>");
+        let out = put_debt(out.put("<g><title>"), self.layout.lanes, owed).put("</title>");
         let out = self.put_marked(out, marked, "", y);
         let out = put_text_at(out, "code", self.layout.words_x, y.saturating_add(4));
-        let out = put!(out; name_text(line.as_slice()), "  ");
-        put!(put_debt_note(out, self.lanes, owed); END_OF_TEXT, END_OF_GROUP)
+        let out = acta_prose::put_line(out, line).put("  ");
+        put!(put_debt_note(out, self.layout.lanes, owed); END_OF_TEXT, END_OF_GROUP)
     }
 
     // Adds the lanes, the rows, and the lines to blockers. The lanes end here where they haven't ended.
@@ -317,7 +309,7 @@ impl<'a, A: Handle> Drawn<'a, A> {
     // Adds the lines to blockers.
     fn put_blocks(&self, mut out: Prose<A>) -> Prose<A> {
         for block in self.blocks.iter() {
-            out = put_block(out, self.lanes, block, self.layout.gap);
+            out = put_block(out, &self.layout, block);
         }
         out
     }
@@ -338,28 +330,18 @@ impl<'a, A: Handle> Drawn<'a, A> {
         let debts = self.debts.len().saturating_mul(ROW);
         let rows_end = self.layout.rows_end;
         let lanes_end = rows_end.saturating_add(debts);
-        let foot = if stop.is_empty() { 0 } else { FOOT };
+        let foot = if stop.is_empty() { 0 } else { LINE };
         let legend = lanes_end.saturating_add(foot).saturating_add(MARGIN + 8);
-        let above = notice.len().saturating_mul(FOOT);
+        let above = notice.len().saturating_mul(LINE);
         let below = legend.saturating_add(height(self.legend.as_slice(), width));
         let out = put_open(out, width, above.saturating_add(below));
-        let out = put_lines(out, notice);
+        let out = put_lines(out, "note", LINE, notice);
         let out = put!(out; "<g transform=\"translate(0,", above, ")\">\n");
         let out = self.put_debts(self.put_rows(out, lanes_end), rows_end);
         let out = put_text(out, "code no", MARGIN, lanes_end.saturating_add(foot), stop);
         let out = put_legend(out, self.legend.as_slice(), width, legend);
         put!(out; END_OF_GROUP, END)
     }
-}
-
-// Adds lines of words from the top on.
-fn put_lines<A: Handle>(mut out: Prose<A>, lines: &[String<A>]) -> Prose<A> {
-    let mut y = FOOT;
-    for line in lines {
-        out = put_text(out, "note", MARGIN, y, line.as_str());
-        y = y.saturating_add(FOOT);
-    }
-    out
 }
 
 // Adds a tie between two lanes, to that of this transaction.
@@ -378,11 +360,7 @@ fn put_curve<A: Handle>(
         Tie::Permits => ("permit", 5),
         Tie::Depends => return out,
     };
-    let end = if from < to {
-        to.saturating_sub(beside)
-    } else {
-        to.saturating_add(beside)
-    };
+    let end = aside(to, from >= to, beside);
     let middle = from.saturating_add(end) / 2;
     let high = y.saturating_sub(16);
     put!(out; "<path class=\"", class, "\" d=\"M", from, " ", y, "Q", middle, " ", high, " ", end, " ", y,
@@ -398,9 +376,6 @@ fn notice<A: Handle>(
 ) -> Result<Vec<String<A>, A>, AllocError> {
     let alloc = lanes.run.allocator();
     let words = put_left_out(Prose::new(alloc), lanes, selection, choice).done()?;
-    if words.is_empty() {
-        return Ok(Vec::new(alloc));
-    }
     wrapped(
         alloc,
         words.as_str(),
@@ -419,14 +394,12 @@ pub fn draw_svg<A: Handle>(
     let selection = Selection::of(lanes, choice, ALL_LANES)?;
     let layout = SvgLayout::of(lanes, &selection)?;
     let debts = selection.debts(lanes)?;
-    let blocks = blocks_of(lanes, &selection, &layout)?;
+    let blocks = blocks_of(&layout)?;
     let (has_blocks, has_debts) = (!blocks.is_empty(), !debts.is_empty());
     let legend = entries_of(lanes, layout.boxes.as_slice(), has_blocks, has_debts)?;
     let notice = notice(lanes, &selection, choice, layout.width)?;
     let drawn = Drawn {
-        lanes,
-        selection: &selection,
-        layout: &layout,
+        layout,
         blocks,
         debts,
         legend,

@@ -4,6 +4,7 @@ ghost use Rattle.std.specs.Prelude.{◌<◌};
 
 use crate::arrows::{Arrow, arrows_of};
 use crate::lanes::{Lanes, Row};
+use crate::markup::MARGIN;
 use crate::notation::operation_label;
 use crate::selection::{HEADER_ROWS, Selection};
 use crate::sentences::{event_text, put_note};
@@ -19,9 +20,6 @@ pub const PLACE_X: usize = 50;
 
 /// The height of the heads of the lanes, which are above the first row and above further ones.
 pub const HEADS: usize = 60;
-
-/// The margin round the whole.
-pub const MARGIN: usize = 16;
 
 /// How far a line of words is below the one above it.
 pub const NEXT_WORDS: usize = 16;
@@ -76,9 +74,11 @@ pub struct RowBox<A: Handle> {
     pub end: usize,
 }
 
-/// Where all is.
+/// What is drawn, and where all is.
 #[derive(Drop)]
-pub struct SvgLayout<A: Handle> {
+pub struct SvgLayout<'a, A: Handle> {
+    pub lanes: &'a Lanes<A>,
+    pub selection: &'a Selection<A>,
     /// The distance of two lanes.
     pub gap: usize,
     /// Where the words of a row begin.
@@ -89,6 +89,15 @@ pub struct SvgLayout<A: Handle> {
     pub rows_end: usize,
     /// The width of the whole.
     pub width: usize,
+}
+
+/// A point so far to the right or to the left of another.
+pub fn aside(x: usize, is_right: bool, by: usize) -> usize {
+    if is_right {
+        x.saturating_add(by)
+    } else {
+        x.saturating_sub(by)
+    }
 }
 
 // How wide a text is, at most, whose characters are so high and so many hundredths of that wide.
@@ -238,9 +247,12 @@ fn gap_of<A: Handle>(lanes: &Lanes<A>, selection: &Selection<A>, boxes: &[RowBox
     gap.min(MOST_GAP)
 }
 
-impl<A: Handle> SvgLayout<A> {
+impl<'a, A: Handle> SvgLayout<'a, A> {
     /// Where all is of what is drawn.
-    pub fn of(lanes: &Lanes<A>, selection: &Selection<A>) -> Result<SvgLayout<A>, AllocError> {
+    pub fn of(
+        lanes: &'a Lanes<A>,
+        selection: &'a Selection<A>,
+    ) -> Result<SvgLayout<'a, A>, AllocError> {
         let boxes = boxes_of(lanes, selection)?;
         let rows_end = boxes.last().map_or(HEADS, |row_box| row_box.end);
         let gap = gap_of(lanes, selection, boxes.as_slice());
@@ -250,20 +262,32 @@ impl<A: Handle> SvgLayout<A> {
             words = words.max(text_width(row_box.event.as_str(), 12, CODE));
             words = words.max(note_width(row_box.note.as_str()));
         }
-        let words_x = lane_x(gap, selection.columns.heads.len()).saturating_sub(gap / 4);
-        let width = words_x.saturating_add(words).saturating_add(MARGIN);
-        Ok(SvgLayout {
+        let mut layout = SvgLayout {
+            lanes,
+            selection,
             gap,
-            words_x,
+            words_x: 0,
             boxes,
             rows_end,
-            width: width.max(LEAST_WIDTH),
-        })
+            width: 0,
+        };
+        layout.words_x = layout
+            .lane_x(selection.columns.heads.len())
+            .saturating_sub(gap / 4);
+        let width = layout.words_x.saturating_add(words).saturating_add(MARGIN);
+        layout.width = width.max(LEAST_WIDTH);
+        Ok(layout)
     }
 
     /// Where the lane of this number is, from the left and from 0.
     pub fn lane_x(&self, lane: usize) -> usize {
-        lane_x(self.gap, lane)
+        let left = self.gap.saturating_mul(lane).saturating_add(PLACE_X + 8);
+        left.saturating_add(self.gap.div_ceil(2))
+    }
+
+    /// Where the lane of the transaction is, if it is drawn.
+    pub fn x(&self, t: TxnId) -> Option<usize> {
+        Some(self.lane_x(self.selection.column(t)?))
     }
 
     /// The box of the row of this number, if it is drawn.
@@ -287,10 +311,4 @@ impl<A: Handle> SvgLayout<A> {
             None => bottom,
         }
     }
-}
-
-// Where the lane of this number is, where two lanes have this distance.
-fn lane_x(gap: usize, lane: usize) -> usize {
-    let left = gap.saturating_mul(lane).saturating_add(PLACE_X + 8);
-    left.saturating_add(gap.div_ceil(2))
 }

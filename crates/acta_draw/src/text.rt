@@ -68,15 +68,19 @@ impl<'a, A: Handle> Page<'a, A> {
         if marked.mark != Mark::Met {
             self.canvas.put(column, glyph, ink);
         }
+        if let Some(number) = self.number_after(marked) {
+            self.canvas
+                .put_number(column.saturating_add(1), number, ink);
+        }
+    }
+
+    // The number that follows the mark: that of an operation, or of a transaction that starts on a lane that may have been that
+    // of another.
+    fn number_after(&self, marked: Marked) -> Option<u32> {
         match marked.mark {
-            Mark::Operation(op) => self.canvas.put_number(column.saturating_add(1), op.0, ink),
-            Mark::Start if self.selection.is_reused => {
-                // (the lane may have been that of another)
-                let number = u32::from(marked.txn.0);
-                self.canvas
-                    .put_number(column.saturating_add(1), number, ink);
-            }
-            _ => {}
+            Mark::Operation(op) => Some(op.0),
+            Mark::Start if self.selection.is_reused => Some(u32::from(marked.txn.0)),
+            _ => None,
         }
     }
 
@@ -87,15 +91,6 @@ impl<'a, A: Handle> Page<'a, A> {
         } else {
             let end = to.saturating_add(number).saturating_add(1);
             self.canvas.put(end, '<', ink);
-        }
-    }
-
-    // How many digits follow the mark of the partner.
-    fn number_beside(&self, partner: Marked) -> usize {
-        if partner.mark == Mark::Start && self.selection.is_reused {
-            digits(usize::from(partner.txn.0))
-        } else {
-            0
         }
     }
 
@@ -112,8 +107,9 @@ impl<'a, A: Handle> Page<'a, A> {
             self.canvas.put(to, '*', Ink::Plain);
         }
         if let (Some(from), Some(to)) = (self.column(from), to) {
-            let number = self.number_beside(partner);
-            self.put_head(from, to, number, ink);
+            let number = self.number_after(partner);
+            let count = number.map_or(0, |number| digits(number as usize));
+            self.put_head(from, to, count, ink);
             self.canvas.fill(from.min(to), from.max(to), glyph, ink);
         }
     }
@@ -234,12 +230,10 @@ impl<'a, A: Handle> Page<'a, A> {
         self.put_front(text, "place").put("event\n")
     }
 
-    // Adds a row.
-    fn put_line(&mut self, text: Prose<A>, row: &Row<'_, A>) -> Prose<A> {
-        self.put_row(row);
-        let is_admitted = row.step.is_admitted();
+    // The label of a row, its event, and the note on it.
+    fn parts_of(&self, row: &Row<'_, A>) -> Result<(String<A>, String<A>, String<A>), AllocError> {
         let label = Prose::new(self.alloc);
-        let label = if is_admitted {
+        let label = if row.step.is_admitted() {
             label.put(row.place)
         } else if has_lane(row.figure.actor.txn) {
             label.put("-")
@@ -247,16 +241,18 @@ impl<'a, A: Handle> Page<'a, A> {
             // (a number that no transaction can have is on no lane)
             label.put("x -")
         };
-        let Ok(label) = label.done() else {
+        let event = event_text(self.lanes, row, self.layout.words)?;
+        let note = put_note(Prose::new(self.alloc), row).done()?;
+        Ok((label.done()?, event, note))
+    }
+
+    // Adds a row.
+    fn put_line(&mut self, text: Prose<A>, row: &Row<'_, A>) -> Prose<A> {
+        self.put_row(row);
+        let Ok((label, event, note)) = self.parts_of(row) else {
             return text.fail();
         };
-        let text = self.put_front(text, label.as_str());
-        let Ok(event) = event_text(self.lanes, row, self.layout.words) else {
-            return text.fail();
-        };
-        let Ok(note) = put_note(Prose::new(self.alloc), row).done() else {
-            return text.fail();
-        };
+        let is_admitted = row.step.is_admitted();
         let words = Words {
             row: row.number,
             event: event.as_str(),
@@ -264,6 +260,7 @@ impl<'a, A: Handle> Page<'a, A> {
             is_list: is_admitted,
             ink: if is_admitted { Ink::Edge } else { Ink::Bad },
         };
+        let text = self.put_front(text, label.as_str());
         self.put_words(text, words)
     }
 
@@ -326,9 +323,6 @@ impl<'a, A: Handle> Page<'a, A> {
 
 /// Adds a notice in lines of at most this width.
 pub fn put_notice<A: Handle>(mut text: Prose<A>, alloc: A, notice: &str, width: usize) -> Prose<A> {
-    if notice.is_empty() {
-        return text;
-    }
     let Ok(lines) = wrapped(alloc, notice, width, false) else {
         return text.fail();
     };

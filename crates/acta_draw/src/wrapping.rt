@@ -83,7 +83,8 @@ impl<A: Handle> Wrapping<A> {
     }
 }
 
-/// The text in lines, each at most so wide, split between its words or, if it is a list, between its items.
+/// The text in lines, each at most so wide, split between its words or, if it is a list, between its items. No text has no
+/// line.
 pub fn wrapped<A: Handle>(
     alloc: A,
     text: &str,
@@ -106,6 +107,8 @@ pub fn wrapped<A: Handle>(
         line,
         ..
     } = wrapping;
-    lines.push(line)?;
+    if !line.is_empty() {
+        lines.push(line)?;
+    }
     Ok(lines)
 }

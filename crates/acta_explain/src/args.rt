@@ -81,41 +81,6 @@ fn kind_named(matches: &ArgMatches<'_>) -> Option<LineKind> {
     }
 }
 
-// Converts the matches.
-fn asked_by<'a>(
-    alloc: Global,
-    surface: &mut Command<'a>,
-    matches: &ArgMatches<'a>,
-) -> Result<Asked<'a>, UsageFault> {
-    let model = matches.get_str("MODEL");
-    let rule = matches.get_str("rule");
-    let axiom = matches.get_str("axiom");
-    let codes = matches.get_strs("code");
-    let kind = kind_named(matches);
-    let words = u8::from(rule.is_some()) + u8::from(axiom.is_some()) + u8::from(codes.is_some());
-    if words + u8::from(model.is_some()) != 1 || words > 0 && kind != Some(LineKind::Events) {
-        let fault = "give a model, or one of --rule, --axiom and --code without a model";
-        return Err(usage(surface, ErrorKind::MissingRequiredArgument, fault));
-    }
-    if let Some(word) = rule {
-        return words_asked(alloc, surface, &[Table::Rules], &[word]);
-    }
-    if let Some(word) = axiom {
-        return words_asked(alloc, surface, &[Table::Axioms], &[word]);
-    }
-    if let Some(words) = codes {
-        return words_asked(alloc, surface, &CODES, words);
-    }
-    let Some(kind) = kind else {
-        let fault = "give at most one of --judge, --drive and --debug";
-        return Err(usage(surface, ErrorKind::ArgumentConflict, fault));
-    };
-    match model_named(model.unwrap_or("")) {
-        Some(name) => Ok(Asked::Lines(kind, name)),
-        None => Err(UsageFault::UnknownModel),
-    }
-}
-
 /// The command line of `explain`.
 pub struct ExplainLine;
 
@@ -150,6 +115,34 @@ impl<'a> CommandLine<'a> for ExplainLine {
         surface: &mut Command<'a>,
         matches: &ArgMatches<'a>,
     ) -> Result<Asked<'a>, UsageFault> {
-        asked_by(alloc, surface, matches)
+        let model = matches.get_str("MODEL");
+        let rule = matches.get_str("rule");
+        let axiom = matches.get_str("axiom");
+        let codes = matches.get_strs("code");
+        let kind = kind_named(matches);
+        let words = u8::from(rule.is_some())
+            + u8::from(axiom.is_some())
+            + u8::from(codes.is_some());
+        if words + u8::from(model.is_some()) != 1 || words > 0 && kind != Some(LineKind::Events) {
+            let fault = "give a model, or one of --rule, --axiom and --code without a model";
+            return Err(usage(surface, ErrorKind::MissingRequiredArgument, fault));
+        }
+        if let Some(word) = rule {
+            return words_asked(alloc, surface, &[Table::Rules], &[word]);
+        }
+        if let Some(word) = axiom {
+            return words_asked(alloc, surface, &[Table::Axioms], &[word]);
+        }
+        if let Some(words) = codes {
+            return words_asked(alloc, surface, &CODES, words);
+        }
+        let Some(kind) = kind else {
+            let fault = "give at most one of --judge, --drive and --debug";
+            return Err(usage(surface, ErrorKind::ArgumentConflict, fault));
+        };
+        match model_named(model.unwrap_or("")) {
+            Some(name) => Ok(Asked::Lines(kind, name)),
+            None => Err(UsageFault::UnknownModel),
+        }
     }
 }

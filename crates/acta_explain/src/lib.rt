@@ -10,7 +10,6 @@
 
 mod advice;
 mod args;
-mod deadlocks;
 mod images;
 mod judged;
 mod report;

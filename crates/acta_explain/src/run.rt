@@ -8,7 +8,6 @@ ghost use Rattle.acta_io.specs.Input.{parsed_in};
 ghost use Rattle.acta_io.specs.Refusals.{refuses_script_on};
 ghost use Rattle.acta_io.specs.declared.input.TheConstants.{MOST_SEATS};
 
-use crate::deadlocks::put_deadlocks;
 use acta_hope::never_begin;
 use acta_io::{
     BadLine, EventLines, Input, MOST_SEATS, NonBlankLine, Report, Script, SeatedLines, read_lines,
@@ -16,8 +15,8 @@ use acta_io::{
 };
 use acta_machine::Handle;
 use acta_prose::{
-    Columns, LineForm, MOST_RENDERED, Prose, RunTrace, StepText, Stop, name_text, put, put_barred,
-    put_numbered_edge, put_prospect, put_standing, put_stop,
+    Columns, LineForm, MOST_RENDERED, Prose, RunTrace, StepText, Stop, Waits, name_text, put,
+    put_barred, put_numbered_edge, put_prospect, put_standing, put_stop,
 };
 use acta_script::{Seated, answer_line, owed_line};
 use acta_table::{Event, Model, Owed};
@@ -75,6 +74,34 @@ fn put_debts<A: Handle>(mut prose: Prose<A>, run: &RunTrace<A>, columns: Columns
     };
     for owed in debts.as_slice() {
         prose = put_owed(prose, run, columns, &lost, owed);
+    }
+    prose
+}
+
+// Adds a deadlock: its transactions, and in lines until when the last event of each is refused.
+fn put_deadlock<A: Handle>(
+    prose: Prose<A>,
+    run: &RunTrace<A>,
+    waits: &Waits<A>,
+    circle: &[usize],
+    indent: usize,
+) -> Prose<A> {
+    let mut prose = waits.put_circle(prose.pad(indent), circle).put("\n");
+    // (the last is the first again)
+    for place in circle.iter().take(circle.len().saturating_sub(1)) {
+        prose = prose.pad(indent).put("  | ");
+        prose = waits.put_wait(prose, run.lines(), *place).put("\n");
+    }
+    prose
+}
+
+// Adds the deadlocks, in indented lines.
+fn put_deadlocks<A: Handle>(mut prose: Prose<A>, run: &RunTrace<A>, indent: usize) -> Prose<A> {
+    let Ok(waits) = Waits::of(run) else {
+        return prose.fail();
+    };
+    for circle in waits.circles.iter() {
+        prose = put_deadlock(prose, run, &waits, circle.as_slice(), indent);
     }
     prose
 }
@@ -139,7 +166,7 @@ fn put_run<A: Handle>(mut prose: Prose<A>, run: &RunTrace<A>, stop: Option<Stop<
     }
     if stop.is_none_or(|stop| stop.form == LineForm::Command) {
         prose = put_debts(prose, run, columns);
-        prose = put_deadlocks(prose, alloc, run, columns.indent().saturating_sub(2));
+        prose = put_deadlocks(prose, run, columns.indent().saturating_sub(2));
     }
     match stop {
         Some(stop) => put_stop(prose, alloc, run.machine().model(), &stop),
@@ -156,7 +183,7 @@ fn run_text<A: Handle>(
     stop: Option<Stop<'_>>,
 ) -> Result<String<A>, AllocError> {
     let mut run = RunTrace::new(alloc, model)?;
-    let text = match run.take_all(events, lines) {
+    let text = match run.take_up_to(events, lines, None) {
         Ok(()) => put_run(Prose::new(alloc), &run, stop).done(),
         Err(e) => Err(e),
     };

@@ -159,6 +159,24 @@ fn named_by_axiom(axiom: Axiom) -> &'static str {
     }
 }
 
+// No number is printed with a code.
+fn names_nothing<T: Copy>(_item: T) -> &'static str {
+    NOTHING
+}
+
+// The entry of the item at this place of a list, with the meaning of the number that is printed with it.
+macro_rules! entry_in {
+    ($items:expr, $place:expr, $named:ident) => {{
+        let item = *$items.get($place)?;
+        Entry {
+            number: item.number(),
+            name: item.name(),
+            sentence: item.sentence(),
+            by: $named(item),
+        }
+    }};
+}
+
 impl Table {
     /// The noun for an entry of the table, before its number.
     pub fn title(self) -> &'static str {
@@ -174,47 +192,13 @@ impl Table {
 
     /// The entry at this place of the table, from 0.
     pub fn entry(self, place: usize) -> Option<Entry> {
-        let (number, name, sentence, by) = match self {
-            Table::Rules => {
-                let rule = *RULES.get(place)?;
-                (
-                    rule.number(),
-                    rule.name(),
-                    rule.sentence(),
-                    named_by_rule(rule),
-                )
-            }
-            Table::Axioms => {
-                let axiom = *AXIOMS.get(place)?;
-                (
-                    axiom.number(),
-                    axiom.name(),
-                    axiom.sentence(),
-                    named_by_axiom(axiom),
-                )
-            }
-            Table::LineCodes => {
-                let fault = *LINE_CODES.get(place)?;
-                (fault.number(), fault.name(), fault.sentence(), NOTHING)
-            }
-            Table::TextCodes => {
-                let code = *TEXT_CODES.get(place)?;
-                (code.number(), code.name(), code.sentence(), NOTHING)
-            }
-            Table::ImageFaults => {
-                let fault = *IMAGE_FAULTS.get(place)?;
-                (fault.number(), fault.name(), fault.sentence(), NOTHING)
-            }
-            Table::ModelFaults => {
-                let fault = *MODEL_FAULTS.get(place)?;
-                (fault.number(), fault.name(), fault.sentence(), NOTHING)
-            }
-        };
-        Some(Entry {
-            number,
-            name,
-            sentence,
-            by,
+        Some(match self {
+            Table::Rules => entry_in!(RULES, place, named_by_rule),
+            Table::Axioms => entry_in!(AXIOMS, place, named_by_axiom),
+            Table::LineCodes => entry_in!(LINE_CODES, place, names_nothing),
+            Table::TextCodes => entry_in!(TEXT_CODES, place, names_nothing),
+            Table::ImageFaults => entry_in!(IMAGE_FAULTS, place, names_nothing),
+            Table::ModelFaults => entry_in!(MODEL_FAULTS, place, names_nothing),
         })
     }
 }

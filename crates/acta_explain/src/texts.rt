@@ -26,12 +26,9 @@ const SPLIT_FORMS: &str = "`split starter KIND started` or `split started KIND s
 
 // Whether a line of an event begins with the word.
 fn is_event_word(word: &[u8]) -> bool {
-    for kind in EVENT_KINDS {
-        if event_word(kind).as_bytes() == word {
-            return true;
-        }
-    }
-    false
+    EVENT_KINDS
+        .iter()
+        .any(|kind| event_word(*kind).as_bytes() == word)
 }
 
 // The advice on a first word that is a known mistake.

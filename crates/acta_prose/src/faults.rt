@@ -289,12 +289,8 @@ fn is_seat(word: &[u8]) -> bool {
 
 // Whether a line of a model begins with the word.
 fn is_model_word(word: &[u8]) -> bool {
-    for known in TextExpected::FirstWord.words() {
-        if known.as_bytes() == word {
-            return true;
-        }
-    }
-    false
+    let mut words = TextExpected::FirstWord.words().iter();
+    words.any(|known| known.as_bytes() == word)
 }
 
 // The advice on a first word that is not an event, but begins a line of another input.

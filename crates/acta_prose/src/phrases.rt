@@ -35,8 +35,8 @@ pub fn allowing_word(kind: EventKind) -> &'static str {
     }
 }
 
-// The kind of an operation.
-fn operation_kind(op: Op) -> OpKind {
+/// The kind of an operation.
+pub fn operation_kind(op: Op) -> OpKind {
     match op {
         Op::Read => OpKind::Read,
         Op::Write(_) => OpKind::Write,

@@ -4,7 +4,7 @@ ghost use Rattle.std.specs.Prelude.{◌≡◌, not, map, IfOk, OnOk};
 ghost use Rattle.acta_machine.specs.Table.{edges_in};
 ghost use Rattle.acta_trace.specs.Steps.{is_admitted};
 ghost use Rattle.acta_trace.specs.Traces.{not_begun};
-ghost use Rattle.acta_prose.specs.Runs.{noted, noted_all};
+ghost use Rattle.acta_prose.specs.Runs.{is_past, noted, noted_up_to};
 
 use crate::lines::{LineIndex, StepText};
 use crate::listing::MOST_LISTED;
@@ -158,23 +158,39 @@ impl<A: Handle> RunTrace<A> {
         self.skipped
     }
 
-    /// Takes all events, each with its line.
-    pub fn take_all(
+    /// Takes the events, each with its line, up to the first that would get a place after the last one, where one is given.
+    pub fn take_up_to(
         &mut self,
         events: Vec<Event<A>, A>,
         lines: &[NonBlankLine<'_>],
+        last: Option<u32>,
     ) -> Result<(), AllocError>
-        ensures { OnOk result (self.new ≡ noted_all self.old (map (λ line. line.line) lines.now) events.items) }
+        ensures { OnOk result (self.new ≡ noted_up_to last self.old (map (λ line. line.line) lines.now) events.items) }
     {
         let mut next = 0;
         for event in events {
             let Some(line) = lines.get(next) else {
                 return Ok(());
             };
+            if self.is_past(last, &event)? {
+                return Ok(());
+            }
             self.take(*line, event)?;
             next += 1;
         }
         Ok(())
+    }
+
+    // Whether the event would get a place after the last one.
+    fn is_past(&self, last: Option<u32>, event: &Event<A>) -> Result<bool, AllocError>
+        ensures { IfOk result (λ past. past ≡ is_past last self.now.state event.now) }
+    {
+        match last {
+            Some(last) if self.machine().history().len() >= last as usize => {
+                Ok(self.machine().why(event)?.is_none())
+            }
+            _ => Ok(false),
+        }
     }
 
     /// Takes the event of the line. A refused event gets a step only if fewer than `MOST_RENDERED` refused ones have one.
