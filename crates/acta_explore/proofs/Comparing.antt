@@ -1,11 +1,11 @@
 -- `==` on the parts of a key.
-use Rattle.std.proofs.Common.{◌≡◌, ◌==◌, ◌&&◌, Bool, true, List, [], ◌∷◌, Option, Some, None, refl, ap, rules}
+use Rattle.std.proofs.Common.{◌≡◌, ◌==◌, ◌&&◌, ℕ, Bool, true, List, [], ◌∷◌, Option, Some, None, refl, sym, ap, ◌∙◌, rules}
 use Rattle.std.specs.Cmp.{first_so, second_so}
 use Rattle.std.specs.Cmp.Lexicographic.{pointwise}
 use Rattle.std.specs.Option.{option_eq}
-use Rattle.std.proofs.lemmas.Bool.{eqb-true}
+use Rattle.std.proofs.lemmas.Bool.{eq-eqb, eqb-true}
 use Rattle.std.proofs.lemmas.Bool.Decides.{Decides-int_eq}
-use denote.Enum.Bare.{sameb, same_true}
+use denote.Enum.Bare.{sameb, same_true, true_same}
 use Rattle.acta_table.specs.declared.answer.Fate.{Fate}
 use Rattle.acta_table.specs.declared.answer.Status.{Status}
 use Rattle.acta_table.specs.declared.dep.Dep.{Dep}
@@ -167,7 +167,7 @@ line_op-same a b h =
     let held = held-same a.held b.held (second_so (a.line == b.line) _ h) in
     λ n. record { line = line n; held = held n }
 
-entry-same : (a b : Txn) → (entry_eq.eq-value).it a b ≡ true → a ≡ b
+pub entry-same : (a b : Txn) → (entry_eq.eq-value).it a b ≡ true → a ≡ b
 entry-same a b h =
     let rest : (option_eq (class_eq.eq-value).it a.class b.class && option_eq (txn_eq.eq-value).it a.parent b.parent) ≡ true = second_so (sameb status_type a.status b.status) _ h in
     let status = status-same a.status b.status (first_so _ _ h) in
@@ -187,11 +187,11 @@ pub record AreSameKeys {A : Type 0} (a b : Key A) : Type 0 where
 -- what the derived `==` of keys is
 abbrev pub key_test : {A : Type 0} → Key A → Key A → Bool
 key_test a b =
-    (a.digest == b.digest) && ((a.kept == b.kept) && (pointwise (option_eq (done_eq.eq-value).it) a.lines.items b.lines.items
+    (a.kept == b.kept) && (pointwise (option_eq (done_eq.eq-value).it) a.lines.items b.lines.items
     && (pointwise (entry_eq.eq-value).it a.txns.items b.txns.items
     && (pointwise (edge_eq.eq-value).it a.edges.items b.edges.items
     && (pointwise (line_op_eq.eq-value).it a.operations.items b.operations.items
-    && pointwise (permit_eq.eq-value).it a.permits.items b.permits.items)))))
+    && pointwise (permit_eq.eq-value).it a.permits.items b.permits.items))))
 
 pub keys-same : {A : Type 0} (a b : Key A) → key_test a b ≡ true → AreSameKeys a b
 keys-same a b h =
@@ -200,16 +200,80 @@ keys-same a b h =
     let edges = pointwise (edge_eq.eq-value).it a.edges.items b.edges.items in
     let operations = pointwise (line_op_eq.eq-value).it a.operations.items b.operations.items in
     let permits = pointwise (permit_eq.eq-value).it a.permits.items b.permits.items in
-    let h0 : ((a.kept == b.kept) && (lines && (txns && (edges && (operations && permits))))) ≡ true = second_so (a.digest == b.digest) _ h in
-    let h1 : (lines && (txns && (edges && (operations && permits)))) ≡ true = second_so (a.kept == b.kept) _ h0 in
+    let h1 : (lines && (txns && (edges && (operations && permits)))) ≡ true = second_so (a.kept == b.kept) _ h in
     let h2 : (txns && (edges && (operations && permits))) ≡ true = second_so lines _ h1 in
     let h3 : (edges && (operations && permits)) ≡ true = second_so txns _ h2 in
     let h4 : (operations && permits) ≡ true = second_so edges _ h3 in
     record {
-      kept = eqb-true a.kept b.kept (first_so _ _ h0);
+      kept = eqb-true a.kept b.kept (first_so _ _ h);
       lines = lists-same (option-same done-same) a.lines.items b.lines.items (first_so _ _ h1);
       txns = lists-same entry-same a.txns.items b.txns.items (first_so _ _ h2);
       edges = lists-same edge-same a.edges.items b.edges.items (first_so _ _ h3);
       operations = lists-same line_op-same a.operations.items b.operations.items (first_so _ _ h4);
       permits = lists-same permit-same a.permits.items b.permits.items (second_so operations _ h4);
     }
+
+pub same-back : {A : Type 0} {a b : Key A} → AreSameKeys a b → AreSameKeys b a
+same-back same = record {
+  kept = sym same.kept;
+  lines = sym same.lines;
+  txns = sym same.txns;
+  edges = sym same.edges;
+  operations = sym same.operations;
+  permits = sym same.permits;
+}
+
+-- each part is equal to itself
+both : (a b : Bool) → a ≡ true → b ≡ true → (a && b) ≡ true
+both a b h k = ap (λ (c : Bool). c && b) h ∙ k
+
+number-itself : (n : ℕ) → (n == n) ≡ true
+number-itself n = eq-eqb n n refl
+
+option-itself : {X : Type 0} (E : X → X → Bool) → ((x : X) → E x x ≡ true) → (o : Option X) → option_eq E o o ≡ true
+option-itself E d None = refl
+option-itself E d (Some x) = d x
+
+list-itself : {X : Type 0} (E : X → X → Bool) → ((x : X) → E x x ≡ true) → (xs : List X) → pointwise E xs xs ≡ true
+list-itself E d [] = refl
+list-itself E d (x ∷ xs) = both (E x x) (pointwise E xs xs) (d x) (list-itself E d xs)
+
+lists-tied : {X : Type 0} (E : X → X → Bool) → ((x : X) → E x x ≡ true) → (xs ys : List X) → xs ≡ ys → pointwise E xs ys ≡ true
+lists-tied E d xs ys e = ap (pointwise E xs) (sym e) ∙ list-itself E d xs
+
+op-itself : (a : Op) → (op_eq.eq-value).it a a ≡ true
+op-itself Read = refl
+op-itself (Write v) = (Decides-int_eq v v).1 refl
+op-itself Get = refl
+op-itself (Add v) = (Decides-int_eq v v).1 refl
+op-itself (Insert v) = (Decides-int_eq v v).1 refl
+op-itself (Remove v) = (Decides-int_eq v v).1 refl
+op-itself (Has v) = (Decides-int_eq v v).1 refl
+op-itself Size = refl
+
+held-itself : (a : HeldOp) → (held_eq.eq-value).it a a ≡ true
+held-itself a = both _ _ (number-itself a.ob.0) (both _ _ (op-itself a.op) (both _ _ (number-itself a.holder.0) (true_same fate_type a.fate a.fate refl)))
+
+edge-itself : (e : Edge) → (edge_eq.eq-value).it e e ≡ true
+edge-itself e = both _ _ (true_same dep_type e.kind e.kind refl) (both _ _ (number-itself e.j.0) (number-itself e.i.0))
+
+permit-itself : (a : Permit) → (permit_eq.eq-value).it a a ≡ true
+permit-itself a = both _ _ (number-itself a.by.0) (both _ _ (number-itself a.to.0) (number-itself a.object.0))
+
+line_op-itself : (a : LineOp) → (line_op_eq.eq-value).it a a ≡ true
+line_op-itself a = both _ _ (number-itself a.line) (held-itself a.held)
+
+pub entry-itself : (a : Txn) → (entry_eq.eq-value).it a a ≡ true
+entry-itself a =
+    both _ _ (true_same status_type a.status a.status refl)
+    (both _ _ (option-itself (class_eq.eq-value).it (λ class. number-itself class.0) a.class) (option-itself (txn_eq.eq-value).it (λ t. number-itself t.0) a.parent))
+
+-- keys with the same parts are equal
+pub keys-tied : {A : Type 0} (a b : Key A) → AreSameKeys a b → key_test a b ≡ true
+keys-tied a b same =
+    both _ _ (eq-eqb a.kept b.kept same.kept)
+    (both _ _ (lists-tied (option_eq (done_eq.eq-value).it) (option-itself (done_eq.eq-value).it (λ d. (done-decides d d).1 refl)) a.lines.items b.lines.items same.lines)
+    (both _ _ (lists-tied (entry_eq.eq-value).it entry-itself a.txns.items b.txns.items same.txns)
+    (both _ _ (lists-tied (edge_eq.eq-value).it edge-itself a.edges.items b.edges.items same.edges)
+    (both _ _ (lists-tied (line_op_eq.eq-value).it line_op-itself a.operations.items b.operations.items same.operations)
+    (lists-tied (permit_eq.eq-value).it permit-itself a.permits.items b.permits.items same.permits)))))

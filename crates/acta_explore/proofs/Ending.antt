@@ -59,10 +59,10 @@ code-kind Wcd = refl
 some-is : {X : Type 0} {x y : X} → Some x ≡ Some y → x ≡ y
 some-is e = cc
 
-same-kind : (k l : Dep) → code_of k ≡ code_of l → k ≡ l
+pub same-kind : (k l : Dep) → code_of k ≡ code_of l → k ≡ l
 same-kind k l e = some-is (sym (code-kind k) ∙ (ap kind_at_code e ∙ code-kind l))
 
-then-equal : (o p : Ordering) → ordering_then o p ≡ Equal → (o ≡ Equal) × (p ≡ Equal)
+pub then-equal : (o p : Ordering) → ordering_then o p ≡ Equal → (o ≡ Equal) × (p ≡ Equal)
 then-equal Less p e = absurd cc
 then-equal Equal p e = (refl, e)
 then-equal Greater p e = absurd cc

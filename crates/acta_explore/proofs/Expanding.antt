@@ -1,5 +1,5 @@
 -- Loops that add points to others.
-use Rattle.std.proofs.Common.{◌≡◌, ℕ, ◌<◌, ◌≤◌, ◌+◌, ◌-◌, zero, suc, true≢false, Bool, true, false, not, cond, List, [], ◌∷◌, ◌++◌, length, get_or, take, map, Option, Some, None, refl, sym, ap, subst, ◌∙◌, arith}
+use Rattle.std.proofs.Common.{◌≡◌, ℕ, ◌<◌, ◌≤◌, ◌+◌, ◌-◌, ◌^◌, zero, suc, true≢false, Bool, true, false, not, cond, List, [], ◌∷◌, ◌++◌, length, get_or, take, map, Option, Some, None, refl, sym, ap, subst, ◌∙◌, arith}
 use Rattle.std.specs.Prelude.{nat_lt, option_map, slice_get, IsSome, OnOk}
 use Rattle.std.specs.Result.{is_err}
 use Rattle.std.specs.declared.result.Result.{Result}
@@ -8,25 +8,25 @@ use Rattle.std.specs.Option.{option_map_or}
 use Rattle.std.specs.List.{AllByRecursion, filter_map, flat_map}
 use Rattle.std.proofs.lemmas.Bool.{ltb-true}
 use Rattle.std.proofs.lemmas.Option.{slice_get-map}
-use Rattle.std.proofs.lemmas.List.{take_more, take_all, append-nil, length-map}
+use Rattle.std.proofs.lemmas.List.{take_more, take_all, append-nil, length-append, length-map}
 use Rattle.std.proofs.lemmas.Grind.{flat_map-append}
 use Rattle.std.proofs.lemmas.List.Elements.{All-from_recursion, filter_more, recursion_from_All}
 use Rattle.acta_explore.specs.declared.key.Key.{Key}
 use Rattle.acta_explore.specs.declared.outcome.Outcome.{Outcome}
 use Rattle.acta_explore.specs.declared.point.Turn.{Turn}
-use Rattle.acta_explore.specs.Ends.{AreAllEndsFrom, HaveSameOutcome}
-use Rattle.acta_explore.specs.Equivalence.{AreEquivalent}
+use Rattle.acta_explore.specs.Ends.{AreAllEndsFrom, CountsPoints, HaveSameOutcome, IsTooMany}
+use Rattle.acta_explore.specs.Equivalence.{AreApart, AreEquivalent}
 use Rattle.acta_explore.specs.Outcomes.{outcome}
 use Rattle.acta_explore.specs.Points.{Point, stepped}
 use Rattle.acta_explore.specs.Programs.{Programs, lines_done}
 use Rattle.acta_explore.specs.inside.Keys.{IsKeyOf}
-use Rattle.acta_explore.specs.inside.Merging.{AreAny, AreKeyed, AreOutcomes, HaveOthers, IsMerged, IsPut, outcomes_of, points_of}
+use Rattle.acta_explore.specs.inside.Merging.{AreKeyed, AreOutcomes, HaveOthers, IsCutOff, IsMerged, IsNextLevel, IsPut, outcomes_of, points_of}
 use Rattle.acta_explore.specs.inside.Numbered.{IsNumbered}
 use Rattle.acta_explore.specs.inside.Shown.{shown}
 use Rattle.acta_explore.specs.inside.Turns.{ends_among, is_nil, successors, turns_at}
 use Rattle.acta_explore.proofs.Looping.{some-filter, none-filter, not-less}
 use Rattle.acta_explore.proofs.Merging.{merged-append}
-use Rattle.acta_explore.proofs.Searching.{IsSearchedTo, searched-start, searched-next, searched-all}
+use Rattle.acta_explore.proofs.Searching.{IsSearchedTo, cut-ends, cut-points, no-ends, root-points, searched-start, searched-next, searched-points, searched-all}
 
 nil-push : {X : Type 0} (xs : List X) (x : X) → is_nil (xs ++ x ∷ []) ≡ false
 nil-push [] x = refl
@@ -41,7 +41,7 @@ none-take f xs i d less e = ap (filter_map f) (take_more xs i d less) ∙ none-f
 -- the points after the first turns are added to the next level; `old` are its earlier points
 pub record IsExpandedTo {A : Type 0} (programs : Programs A) (p : Point A) (old : List (Point A)) (turns : List Turn) (n : ℕ) (next : List (Key A × Point A)) (has_step : Bool) : Type 0 where
   pub keyed : AreKeyed programs next
-  pub merged : IsMerged (AreEquivalent programs) AreAny old (filter_map (stepped programs p) (take n turns)) (points_of next)
+  pub merged : IsMerged (AreEquivalent programs) (AreApart programs) old (filter_map (stepped programs p) (take n turns)) (points_of next)
   pub some : has_step ≡ not (is_nil (filter_map (stepped programs p) (take n turns)))
 
 module _ {A : Type 0} (programs : Programs A) (p : Point A) (old : List (Point A)) (turns : List Turn) where
@@ -51,27 +51,27 @@ module _ {A : Type 0} (programs : Programs A) (p : Point A) (old : List (Point A
       let same = sym (none-take (stepped programs p) turns n d less e) in
       record {
         keyed = s.keyed;
-        merged = subst (λ (ps : List (Point A)). IsMerged (AreEquivalent programs) AreAny old ps (points_of next)) same s.merged;
+        merged = subst (λ (ps : List (Point A)). IsMerged (AreEquivalent programs) (AreApart programs) old ps (points_of next)) same s.merged;
         some = s.some ∙ ap (λ (ps : List (Point A)). not (is_nil ps)) same;
       }
 
   -- another adds the point after it
-  pub expanded-some : (n : ℕ) (d : Turn) (q : Point A) (next more : List (Key A × Point A)) (has_step : Bool) → n < length turns → stepped programs p (get_or turns n d) ≡ Some q → AreKeyed programs more → IsPut (AreEquivalent programs) AreAny (points_of next) q (points_of more) → IsExpandedTo programs p old turns n next has_step → IsExpandedTo programs p old turns (n + 1) more true
+  pub expanded-some : (n : ℕ) (d : Turn) (q : Point A) (next more : List (Key A × Point A)) (has_step : Bool) → n < length turns → stepped programs p (get_or turns n d) ≡ Some q → AreKeyed programs more → IsPut (AreEquivalent programs) (AreApart programs) (points_of next) q (points_of more) → IsExpandedTo programs p old turns n next has_step → IsExpandedTo programs p old turns (n + 1) more true
   expanded-some n d q next more has_step less e keyed put s =
       let f = stepped programs p in
       let pushed = sym (some-take f turns n d q less e) in
       record {
         keyed = keyed;
-        merged = subst (λ (ps : List (Point A)). IsMerged (AreEquivalent programs) AreAny old ps (points_of more)) pushed
-            (merged-append (AreEquivalent programs) AreAny (filter_map f (take n turns)) (q ∷ []) old (points_of next) (points_of more) s.merged (points_of more, put, refl));
+        merged = subst (λ (ps : List (Point A)). IsMerged (AreEquivalent programs) (AreApart programs) old ps (points_of more)) pushed
+            (merged-append (AreEquivalent programs) (AreApart programs) (filter_map f (take n turns)) (q ∷ []) old (points_of next) (points_of more) s.merged (points_of more, put, refl));
         some = sym (ap not (nil-push (filter_map f (take n turns)) q)) ∙ ap (λ (ps : List (Point A)). not (is_nil ps)) pushed;
       }
 
   -- at the end all points after the steps are added
-  pub expanded-all : (n : ℕ) (next : List (Key A × Point A)) (has_step : Bool) → length turns ≤ n → turns ≡ turns_at programs (lines_done programs p.steps) → IsExpandedTo programs p old turns n next has_step → IsMerged (AreEquivalent programs) AreAny old (successors programs p) (points_of next) × (has_step ≡ not (is_nil (successors programs p)))
+  pub expanded-all : (n : ℕ) (next : List (Key A × Point A)) (has_step : Bool) → length turns ≤ n → turns ≡ turns_at programs (lines_done programs p.steps) → IsExpandedTo programs p old turns n next has_step → IsMerged (AreEquivalent programs) (AreApart programs) old (successors programs p) (points_of next) × (has_step ≡ not (is_nil (successors programs p)))
   expanded-all n next has_step past e s =
       let all = ap (filter_map (stepped programs p)) (take_all n turns past ∙ e) in
-      (subst (λ (ps : List (Point A)). IsMerged (AreEquivalent programs) AreAny old ps (points_of next)) all s.merged, s.some ∙ ap (λ (ps : List (Point A)). not (is_nil ps)) all)
+      (subst (λ (ps : List (Point A)). IsMerged (AreEquivalent programs) (AreApart programs) old ps (points_of next)) all s.merged, s.some ∙ ap (λ (ps : List (Point A)). not (is_nil ps)) all)
 
 flat-take : {X Y : Type 0} (f : X → List Y) (xs : List X) (i : ℕ) (d : X) → i < length xs → flat_map f (take (i + 1) xs) ≡ flat_map f (take i xs) ++ f (get_or xs i d)
 flat-take f xs i d less =
@@ -143,8 +143,7 @@ pub record IsPutTo {A : Type 0} (programs : Programs A) (level old : List (Point
   pub keyed : AreKeyed programs next
   pub outcomes : AreOutcomes programs ends
   pub few : length next ≤ room
-  pub merged : IsMerged (AreEquivalent programs) AreAny [] (flat_map (successors programs) (take n level)) (points_of next)
-  pub ended : IsMerged (HaveSameOutcome programs) (HaveOthers programs) old (ends_among programs (take n level)) (points_of ends)
+  pub after : IsNextLevel programs (take n level) old (points_of next) (points_of ends)
 
 module _ {A : Type 0} (programs : Programs A) (level old : List (Point A)) (room : ℕ) where
   pub put-start : (next : List (Key A × Point A)) (ends : List (Outcome A × Point A)) → next ≡ [] → AreOutcomes programs ends → points_of ends ≡ old → IsPutTo programs level old room 0 next ends
@@ -152,35 +151,53 @@ module _ {A : Type 0} (programs : Programs A) (level old : List (Point A)) (room
     keyed = none-keyed programs next none;
     outcomes = outcomes;
     few = subst (λ (es : List _). length es ≤ room) (sym none) (omega arith);
-    merged = ap points_of none;
-    ended = same;
+    after = record { points = ap points_of none; ends = same };
   }
 
-  pub put-next : (n : ℕ) (p : Point A) (next more : List (Key A × Point A)) (ends all : List (Outcome A × Point A)) → n < length level → get_or level n p ≡ p
-      → AreKeyed programs more → AreOutcomes programs all → length more ≤ room
-      → IsMerged (AreEquivalent programs) AreAny (points_of next) (successors programs p) (points_of more)
+  -- the points after one point more
+  after-next : (n : ℕ) (p : Point A) (next more : List (Key A × Point A)) (ends all : List (Outcome A × Point A)) → n < length level → get_or level n p ≡ p
+      → IsMerged (AreEquivalent programs) (AreApart programs) (points_of next) (successors programs p) (points_of more)
       → IsMerged (HaveSameOutcome programs) (HaveOthers programs) (points_of ends) (ends_among programs (p ∷ [])) (points_of all)
-      → IsPutTo programs level old room n next ends → IsPutTo programs level old room (n + 1) more all
-  put-next n p next more ends all less at keyed outcomes few merged ended s =
+      → IsPutTo programs level old room n next ends → IsNextLevel programs (take (n + 1) level) old (points_of more) (points_of all)
+  after-next n p next more ends all less at merged ended s =
       let on = sym (flat-take (successors programs) level n p less ∙ ap (λ (q : Point A). flat_map (successors programs) (take n level) ++ successors programs q) at) in
       let over = sym (filter_more (λ q. is_nil (successors programs q)) level n p less ∙ ap (λ (q : Point A). ends_among programs (take n level) ++ ends_among programs (q ∷ [])) at) in
       record {
-        keyed = keyed;
-        outcomes = outcomes;
-        few = few;
-        merged = subst (λ (ps : List (Point A)). IsMerged (AreEquivalent programs) AreAny [] ps (points_of more)) on
-            (merged-append (AreEquivalent programs) AreAny (flat_map (successors programs) (take n level)) (successors programs p) [] (points_of next) (points_of more) s.merged merged);
-        ended = subst (λ (ps : List (Point A)). IsMerged (HaveSameOutcome programs) (HaveOthers programs) old ps (points_of all)) over
-            (merged-append (HaveSameOutcome programs) (HaveOthers programs) (ends_among programs (take n level)) (ends_among programs (p ∷ [])) old (points_of ends) (points_of all) s.ended ended);
+        points = subst (λ (ps : List (Point A)). IsMerged (AreEquivalent programs) (AreApart programs) [] ps (points_of more)) on
+            (merged-append (AreEquivalent programs) (AreApart programs) (flat_map (successors programs) (take n level)) (successors programs p) [] (points_of next) (points_of more) s.after.points merged);
+        ends = subst (λ (ps : List (Point A)). IsMerged (HaveSameOutcome programs) (HaveOthers programs) old ps (points_of all)) over
+            (merged-append (HaveSameOutcome programs) (HaveOthers programs) (ends_among programs (take n level)) (ends_among programs (p ∷ [])) old (points_of ends) (points_of all) s.after.ends ended);
       }
 
-  pub put-all : (n : ℕ) (next : List (Key A × Point A)) (ends : List (Outcome A × Point A)) → length level ≤ n → IsPutTo programs level old room n next ends
-      → IsMerged (AreEquivalent programs) AreAny [] (flat_map (successors programs) level) (points_of next) × IsMerged (HaveSameOutcome programs) (HaveOthers programs) old (ends_among programs level) (points_of ends)
-  put-all n next ends past s =
-      let all = take_all n level past in (
-        subst (λ (ps : List (Point A)). IsMerged (AreEquivalent programs) AreAny [] (flat_map (successors programs) ps) (points_of next)) all s.merged,
-        subst (λ (ps : List (Point A)). IsMerged (HaveSameOutcome programs) (HaveOthers programs) old (ends_among programs ps) (points_of ends)) all s.ended,
-      )
+  pub put-next : (n : ℕ) (p : Point A) (next more : List (Key A × Point A)) (ends all : List (Outcome A × Point A)) → n < length level → get_or level n p ≡ p
+      → AreKeyed programs more → AreOutcomes programs all → length more ≤ room
+      → IsMerged (AreEquivalent programs) (AreApart programs) (points_of next) (successors programs p) (points_of more)
+      → IsMerged (HaveSameOutcome programs) (HaveOthers programs) (points_of ends) (ends_among programs (p ∷ [])) (points_of all)
+      → IsPutTo programs level old room n next ends → IsPutTo programs level old room (n + 1) more all
+  put-next n p next more ends all less at keyed outcomes few merged ended s = record {
+    keyed = keyed;
+    outcomes = outcomes;
+    few = few;
+    after = after-next n p next more ends all less at merged ended s;
+  }
+
+  -- there is no room for these
+  pub put-cut : (n count : ℕ) (p : Point A) (next more : List (Key A × Point A)) (ends all : List (Outcome A × Point A)) → n < length level → get_or level n p ≡ p
+      → count ≡ length more → room < count → count < 2 ^ 63
+      → IsMerged (AreEquivalent programs) (AreApart programs) (points_of next) (successors programs p) (points_of more)
+      → IsMerged (HaveSameOutcome programs) (HaveOthers programs) (points_of ends) (ends_among programs (p ∷ [])) (points_of all)
+      → IsPutTo programs level old room n next ends → IsCutOff programs level old (points_of all) room count
+  put-cut n count p next more ends all less at counted above small merged ended s = record {
+    n = n + 1;
+    next = points_of more;
+    after = after-next n p next more ends all less at merged ended s;
+    counted = counted ∙ sym (length-map more (λ e. e.1));
+    more = above;
+    small = small;
+  }
+
+  pub put-all : (n : ℕ) (next : List (Key A × Point A)) (ends : List (Outcome A × Point A)) → length level ≤ n → IsPutTo programs level old room n next ends → IsNextLevel programs level old (points_of next) (points_of ends)
+  put-all n next ends past s = subst (λ (ps : List (Point A)). IsNextLevel programs ps old (points_of next) (points_of ends)) (take_all n level past) s.after
 
 -- the outcomes that are kept are those of the points
 pub outcomes-kept : {A : Type 0} (programs : Programs A) (entries : List (Outcome A × Point A)) → AreOutcomes programs entries → outcomes_of entries ≡ map (outcome programs) (points_of entries)
@@ -193,32 +210,80 @@ outcomes-kept {A = A} programs entries all = by entries (recursion_from_All (λ 
 -- all orders of n steps from the root are searched, with at most the allowed points
 pub record IsExploredTo {A : Type 0} (programs : Programs A) (root : Point A) (most points : ℕ) (level : List (Key A × Point A)) (ends : List (Outcome A × Point A)) : Type 0 where
   pub n : ℕ
-  pub searched : IsSearchedTo programs root n (points_of level) (points_of ends)
+  pub earlier : List (Point A)
+  pub searched : IsSearchedTo programs root n earlier (points_of level) (points_of ends)
+  pub counted : points ≡ length earlier + length level
   pub outcomes : AreOutcomes programs ends
   pub few : points ≤ most
+
+-- more than there is room for are too many
+above-room : (most points count : ℕ) → points ≤ most → most - points < count → most < points + count
+above-room most points count few above = omega arith
+
+-- not even the root may be searched
+pub root-over : {A : Type 0} (programs : Programs A) (root : Point A) (most : ℕ) → most ≡ 0 → IsTooMany programs root most 1 0
+root-over programs root most none = record {
+  more = omega (arith, none);
+  found = root ∷ [];
+  some = root-points programs root;
+  counted = refl;
+  ended = [];
+  some_ends = no-ends programs root;
+  counted_ends = refl;
+}
 
 module _ {A : Type 0} (programs : Programs A) (root : Point A) (most : ℕ) where
   pub explored-start : (level : List (Key A × Point A)) (ends : List (Outcome A × Point A)) → IsNumbered root → points_of level ≡ root ∷ [] → ends ≡ [] → 1 ≤ most → IsExploredTo programs root most 1 level ends
   explored-start level ends numbered first none one = record {
     n = 0;
-    searched = subst (λ (es : List (Outcome A × Point A)). IsSearchedTo programs root 0 (points_of level) (points_of es)) (sym none) (subst (λ (ps : List (Point A)). IsSearchedTo programs root 0 ps []) (sym first) (searched-start programs root numbered));
+    earlier = [];
+    searched = subst (λ (es : List (Outcome A × Point A)). IsSearchedTo programs root 0 [] (points_of level) (points_of es)) (sym none) (subst (λ (ps : List (Point A)). IsSearchedTo programs root 0 [] ps []) (sym first) (searched-start programs root numbered));
+    counted = let one_point : 1 ≡ length level = sym (ap (λ (ps : List (Point A)). length ps) first) ∙ length-map level (λ e. e.1) in omega (arith, one_point);
     outcomes = none-outcomes programs ends none;
     few = one;
   }
 
   pub explored-next : (points count : ℕ) (plan : Programs A) (level next : List (Key A × Point A)) (ends more : List (Outcome A × Point A)) → plan ≡ programs
-      → IsExploredTo programs root most points level ends → AreOutcomes plan more → points + count ≤ most
-      → IsMerged (AreEquivalent plan) AreAny [] (flat_map (successors plan) (points_of level)) (points_of next)
-      → IsMerged (HaveSameOutcome plan) (HaveOthers plan) (points_of ends) (ends_among plan (points_of level)) (points_of more)
+      → IsExploredTo programs root most points level ends → AreOutcomes plan more → points + count ≤ most → count ≡ length next
+      → IsNextLevel plan (points_of level) (points_of ends) (points_of next) (points_of more)
       → IsExploredTo programs root most (points + count) next more
-  explored-next points count plan level next ends more e s outcomes few merged ended = record {
-    n = s.n + 1;
-    searched = searched-next programs root s.n (points_of level) (points_of ends) (points_of next) (points_of more) s.searched
-        (subst (λ (ps : Programs A). IsMerged (AreEquivalent ps) AreAny [] (flat_map (successors ps) (points_of level)) (points_of next)) e merged)
-        (subst (λ (ps : Programs A). IsMerged (HaveSameOutcome ps) (HaveOthers ps) (points_of ends) (ends_among ps (points_of level)) (points_of more)) e ended);
-    outcomes = subst (λ (ps : Programs A). AreOutcomes ps more) e outcomes;
-    few = few;
-  }
+  explored-next points count plan level next ends more e s outcomes few counted after =
+      let long : length (s.earlier ++ points_of level) ≡ length s.earlier + length level = length-append s.earlier (points_of level) ∙ ap (λ (k : ℕ). length s.earlier + k) (length-map level (λ e. e.1)) in
+      let total : points ≡ length s.earlier + length level = s.counted in
+      record {
+        n = s.n + 1;
+        earlier = s.earlier ++ points_of level;
+        searched = searched-next programs root s.n s.earlier (points_of level) (points_of ends) (points_of next) (points_of more) s.searched
+            (subst (λ (ps : Programs A). IsNextLevel ps (points_of level) (points_of ends) (points_of next) (points_of more)) e after);
+        counted = omega (arith, long, total, counted);
+        outcomes = subst (λ (ps : Programs A). AreOutcomes ps more) e outcomes;
+        few = few;
+      }
 
   pub explored-all : (points : ℕ) (level : List (Key A × Point A)) (ends : List (Outcome A × Point A)) → level ≡ [] → IsExploredTo programs root most points level ends → AreAllEndsFrom programs root (points_of ends)
-  explored-all points level ends none s = searched-all programs root s.n (points_of ends) (subst (λ (es : List (Key A × Point A)). IsSearchedTo programs root s.n (points_of es) (points_of ends)) none s.searched)
+  explored-all points level ends none s = searched-all programs root s.n s.earlier (points_of ends) (subst (λ (es : List (Key A × Point A)). IsSearchedTo programs root s.n s.earlier (points_of es) (points_of ends)) none s.searched)
+
+  pub explored-points : (points : ℕ) (level : List (Key A × Point A)) (ends : List (Outcome A × Point A)) → level ≡ [] → IsExploredTo programs root most points level ends → CountsPoints programs root points
+  explored-points points level ends none s = record {
+    points = s.earlier;
+    all = searched-points programs root s.n s.earlier (points_of ends) (subst (λ (es : List (Key A × Point A)). IsSearchedTo programs root s.n s.earlier (points_of es) (points_of ends)) none s.searched);
+    counted = let total : points ≡ length s.earlier + 0 = s.counted ∙ ap (λ (es : List (Key A × Point A)). length s.earlier + length es) none in omega (arith, total);
+  }
+
+  pub explored-cut : (points count ends_found : ℕ) (plan : Programs A) (level : List (Key A × Point A)) (ends more : List (Outcome A × Point A)) → plan ≡ programs
+      → IsExploredTo programs root most points level ends → ends_found ≡ length more → IsCutOff plan (points_of level) (points_of ends) (points_of more) (most - points) count → IsTooMany programs root most (points + count) ends_found
+  explored-cut points count ends_found plan level ends more e s counted_ends cut =
+      let after = subst (λ (ps : Programs A). IsNextLevel ps (take cut.n (points_of level)) (points_of ends) cut.next (points_of more)) e cut.after in
+      let long : length (s.earlier ++ points_of level) ≡ length s.earlier + length level = length-append s.earlier (points_of level) ∙ ap (λ (k : ℕ). length s.earlier + k) (length-map level (λ e. e.1)) in
+      let all : length ((s.earlier ++ points_of level) ++ cut.next) ≡ length (s.earlier ++ points_of level) + length cut.next = length-append (s.earlier ++ points_of level) cut.next in
+      let total : points ≡ length s.earlier + length level = s.counted in
+      let next : count ≡ length cut.next = cut.counted in
+      record {
+        more = above-room most points count s.few cut.more;
+        found = (s.earlier ++ points_of level) ++ cut.next;
+        some = cut-points programs root s.n cut.n s.earlier (points_of level) (points_of ends) cut.next (points_of more) s.searched after;
+        counted = omega (arith, long, all, total, next);
+        ended = points_of more;
+        some_ends = cut-ends programs root s.n cut.n s.earlier (points_of level) (points_of ends) cut.next (points_of more) s.searched after;
+        counted_ends = counted_ends ∙ sym (length-map more (λ e. e.1));
+      }

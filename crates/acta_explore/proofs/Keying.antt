@@ -1,5 +1,5 @@
--- The content of keys; and points with equal keys are equivalent.
-use Rattle.std.proofs.Common.{◌≡◌, ◌<◌, ◌≤◌, ◌==◌, ◌&&◌, ◌⊎◌, ℕ, zero, suc, Bool, true, false, not, List, [], ◌∷◌, ◌++◌, map, filter, length, get_or, is_some, refl, ap, sym, ◌∙◌, inl, inr, arith}
+-- The content of keys; points with equal keys are equivalent.
+use Rattle.std.proofs.Common.{◌≡◌, ◌<◌, ◌≤◌, ◌==◌, ◌&&◌, ◌⊎◌, ℕ, ◌+◌, Bool, true, false, not, List, [], ◌∷◌, ◌++◌, map, filter, length, get_or, is_some, refl, ap, sym, ◌∙◌, inl, inr, arith}
 use Rattle.std.specs.Cmp.{nat_cmp_is}
 use Rattle.std.specs.List.{range_with_len, list_any}
 use Rattle.std.specs.List.Sorted.{IsPermutation, IsStableByKey}
@@ -23,19 +23,16 @@ use Rattle.acta_machine.proofs.FamilyTies.{kept-many}
 use Rattle.acta_explore.specs.declared.key.Key.{Key}
 use Rattle.acta_explore.specs.declared.key.LineOp.{LineOp}
 use Rattle.acta_explore.specs.declared.key.Txn.{Txn}
-use Rattle.acta_explore.specs.Equivalence.{known, is_on, without_lists, AreEquivalent}
+use Rattle.acta_explore.specs.Equivalence.{known, is_on, without_lists, AreApart, AreEquivalent}
 use Rattle.acta_explore.specs.Points.{Point}
 use Rattle.acta_explore.specs.Programs.{Programs}
-use Rattle.acta_explore.specs.inside.Keys.{IsKeyOf, no_txn}
-use Rattle.acta_explore.specs.inside.Merging.{AreAny, AreKeyed, HasLike, IsPut, points_of}
-use Rattle.acta_explore.proofs.Comparing.{AreSameKeys, key_test, keys-same}
+use Rattle.acta_explore.specs.inside.Keys.{IsKeyOf, IsTrimmed, no_txn}
+use Rattle.acta_explore.specs.inside.Merging.{AreKeyed, HasLike, IsPut, points_of}
+use Rattle.acta_explore.proofs.Canonical.{apart-keyed}
+use Rattle.acta_explore.proofs.Comparing.{AreSameKeys, key_test, keys-same, same-back}
 use Rattle.acta_explore.proofs.Lookups.{HasKey, found-entry, insert-last}
+use Rattle.acta_explore.proofs.Looping.{past}
 use Rattle.acta_explore.proofs.Turning.{contains-map}
-
-past : {X : Type 0} (xs : List X) (t : ℕ) (d : X) → length xs ≤ t → get_or xs t d ≡ d
-past [] t d above = refl
-past (x ∷ xs) zero d above = absurd (omega arith)
-past (x ∷ xs) (suc t) d above = past xs t d (omega arith)
 
 -- the item at a number, where what follows the last is the default
 pub item-of-range : {X : Type 0} (f : ℕ → X) (n t : ℕ) (d : X) → (n ≤ t → f t ≡ d) → get_or (map f (range_with_len 0 n)) t d ≡ f t
@@ -51,6 +48,16 @@ item-of-range f n t d beyond = by (cases_order t n)
     by (inl same) = above (omega arith)
     by (inr (inl here)) = less here
     by (inr (inr here)) = above (omega arith)
+
+-- how many of the first records are counted: those from there on are those of transactions that have not begun
+pub record IsCountedTo (txn : ℕ → Txn) (t count : ℕ) : Type 0 where
+  pub few : count ≤ t
+  pub beyond : (u : ℕ) → count ≤ u → u < t → txn u ≡ no_txn
+  pub last : (u : ℕ) → count ≡ u + 1 → txn u ≡ no_txn → ⊥
+
+-- the records counted
+pub trimmed-range : (txn : ℕ → Txn) (n : ℕ) → ((t : ℕ) → n ≤ t → txn t ≡ no_txn) → ((t : ℕ) → n ≡ t + 1 → txn t ≡ no_txn → ⊥) → IsTrimmed (map txn (range_with_len 0 n))
+trimmed-range txn n beyond last t e none = last t (sym (length-map-range_with_len txn 0 n) ∙ e) (sym (item-of-range txn n t no_txn (beyond t)) ∙ none)
 
 -- keys that tie are equal
 pub tie-same : (a b : ℕ) → not (is_lt (nat_cmp a b)) && not (is_lt (nat_cmp b a)) ≡ (b == a)
@@ -117,16 +124,6 @@ equal-keys programs p q a b here there same =
       operations = λ ob. sym (here.operations ob) ∙ (ap (filter (is_on ob)) same.operations ∙ there.operations ob);
     }
 
-same-back : {A : Type 0} {a b : Key A} → AreSameKeys a b → AreSameKeys b a
-same-back same = record {
-  kept = sym same.kept;
-  lines = sym same.lines;
-  txns = sym same.txns;
-  edges = sym same.edges;
-  operations = sym same.operations;
-  permits = sym same.permits;
-}
-
 like-by-key : {A : Type 0} (programs : Programs A) (p : Point A) (key : Key A) (entries : List (Key A × Point A)) → AreKeyed programs entries → IsKeyOf programs p key → HasKey (key_test key) entries → HasLike (AreEquivalent programs) (points_of entries) p
 like-by-key programs p key entries keyed is found =
     let other : IsKeyOf programs found.value found.key = All-contains (λ e. IsKeyOf programs e.1 e.0) entries (found.key, found.value) keyed found.within in
@@ -138,7 +135,7 @@ like-by-key programs p key entries keyed is found =
 
 -- a point whose key is there is like one of the others
 pub put-found : {A : Type 0} (programs : Programs A) (p : Point A) (key : Key A) (entries : List (Key A × Point A)) → AreKeyed programs entries → IsKeyOf programs p key → is_some (lookup (key_test key) entries) ≡ true
-    → IsPut (AreEquivalent programs) AreAny (points_of entries) p (points_of entries)
+    → IsPut (AreEquivalent programs) (AreApart programs) (points_of entries) p (points_of entries)
 put-found programs p key entries keyed is found = inr (refl, like-by-key programs p key entries keyed is (found-entry (key_test key) entries found))
 
 -- and one whose key is new goes last
@@ -147,7 +144,10 @@ pub put-keyed : {A : Type 0} (programs : Programs A) (p : Point A) (key : Key A)
 put-keyed programs p key entries new keyed is none e =
     All-same (λ e. IsKeyOf programs e.1 e.0) new (entries ++ (key, p) ∷ []) (e ∙ insert-last key_test entries key p none) (All-push (λ e. IsKeyOf programs e.1 e.0) entries (key, p) keyed is)
 
-pub put-new : {A : Type 0} (programs : Programs A) (p : Point A) (key : Key A) (entries new : List (Key A × Point A)) → is_some (lookup (key_test key) entries) ≡ false → new ≡ insert_entry key_test entries key p
-    → IsPut (AreEquivalent programs) AreAny (points_of entries) p (points_of new)
-put-new programs p key entries new none e =
-    inl (ap (λ (es : List (Key _ × Point _)). points_of es) (e ∙ insert-last key_test entries key p none) ∙ map-append (λ (e : Key _ × Point _). e.1) entries ((key, p) ∷ []), λ k d less. tt)
+pub put-new : {A : Type 0} (programs : Programs A) (p : Point A) (key : Key A) (entries new : List (Key A × Point A)) → AreKeyed programs entries → IsKeyOf programs p key → is_some (lookup (key_test key) entries) ≡ false
+    → new ≡ insert_entry key_test entries key p → IsPut (AreEquivalent programs) (AreApart programs) (points_of entries) p (points_of new)
+put-new programs p key entries new keyed is none e =
+    inl (
+      ap (λ (es : List (Key _ × Point _)). points_of es) (e ∙ insert-last key_test entries key p none) ∙ map-append (λ (e : Key _ × Point _). e.1) entries ((key, p) ∷ []),
+      apart-keyed programs p key entries keyed is none,
+    )

@@ -1,7 +1,9 @@
 pub mod Equivalence
 mod Anys
+mod Canonical
 mod Circling
 mod Comparing
+mod Edges
 mod Effects
 mod Ending
 mod Expanding

@@ -11,6 +11,12 @@ use Rattle.acta_explore.specs.declared.point.Done.{Done}
 use Rattle.acta_explore.specs.Programs.{Programs, done_at, lines_done, next_from}
 use Rattle.acta_explore.specs.inside.Noting.{noted_at}
 
+-- beyond the last item
+pub past : {X : Type 0} (xs : List X) (t : ℕ) (d : X) → length xs ≤ t → get_or xs t d ≡ d
+past [] t d above = refl
+past (x ∷ xs) zero d above = absurd (omega arith)
+past (x ∷ xs) (suc t) d above = past xs t d (omega arith)
+
 -- ranges
 pub range-more : (a n : ℕ) → range_with_len a (n + 1) ≡ range_with_len a n ++ (a + n) ∷ []
 range-more a n = subst (λ (m : ℕ). range_with_len a m ≡ range_with_len a n ++ (a + n) ∷ []) (plus-one n) (by-suc a n)

@@ -25,6 +25,10 @@ module _ {X : Type 0} where
   all-at P (x ∷ xs) zero d l all = all.0
   all-at P (x ∷ xs) (suc i) d l all = all-at P xs i d (omega arith) all.1
 
+  pub all-from : (P : X → Type 0) (xs : List X) → ((i : ℕ) (d : X) → i < length xs → P (get_or xs i d)) → AllByRecursion P xs
+  all-from P [] h = tt
+  all-from P (x ∷ xs) h = (h 0 x (omega arith), all-from P xs (λ i d less. h (suc i) d (omega arith)))
+
   pub pairs-append : (B : X → X → Type 0) (xs ys : List X) → Pairs B xs → Pairs B ys → AllByRecursion (λ x. AllByRecursion (B x) ys) xs → Pairs B (xs ++ ys)
   pairs-append B [] ys here there across = there
   pairs-append B (x ∷ xs) ys here there across =
@@ -48,3 +52,12 @@ module _ {X : Type 0} where
   pairs-at B (x ∷ xs) i zero d l within pairs = absurd (omega arith)
   pairs-at B (x ∷ xs) zero (suc j) d l within pairs = all-at (B x) xs j d (omega arith) pairs.0
   pairs-at B (x ∷ xs) (suc i) (suc j) d l within pairs = pairs-at B xs i j d (omega arith) (omega arith) pairs.1
+
+  pub pairs-left : (B : X → X → Type 0) (xs ys : List X) → Pairs B (xs ++ ys) → Pairs B xs
+  pairs-left B [] ys pairs = tt
+  pairs-left B (x ∷ xs) ys pairs = (all-left (B x) xs ys pairs.0, pairs-left B xs ys pairs.1)
+
+  pub pairs-from : (B : X → X → Type 0) (xs : List X) → ((i j : ℕ) (d : X) → i < j → j < length xs → B (get_or xs i d) (get_or xs j d)) → Pairs B xs
+  pairs-from B [] h = tt
+  pairs-from B (x ∷ xs) h =
+      (all-from (B x) xs (λ j d less. h 0 (suc j) d (omega arith) (omega arith)), pairs-from B xs (λ i j d less within. h (suc i) (suc j) d (omega arith) (omega arith)))

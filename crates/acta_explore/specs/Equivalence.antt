@@ -46,3 +46,7 @@ pub record AreEquivalent {A : Type 0} (programs : Programs A) (p q : Point A) : 
   pub rest : without_lists (known p) ≡ without_lists (known q)
   pub edges : AreSameEdges (known p).edges (known q).edges
   pub operations : AreSameByObject (line_ops p) (line_ops q)
+
+-- the two points are not equivalent
+abbrev pub AreApart : {A : Type 0} → Programs A → Point A → Point A → Type 0
+AreApart programs p q = AreEquivalent programs p q → ⊥

@@ -1,26 +1,27 @@
-//! The keys of points: points with equal keys are equivalent.
+//! The keys of points: points have equal keys exactly if they are equivalent.
 
-ghost use Rattle.std.specs.Prelude.{◌≡◌, ◌==◌, ℕ, length, filter, get_or, IfOk};
-ghost use Rattle.std.proofs.Common.{rules};
-ghost use Rattle.std.specs.Cmp.Rules.{hashing};
-ghost use Rattle.std.specs.List.Sorted.{IsPermutation};
+ghost use Rattle.std.specs.Prelude.{◌≡◌, ◌<◌, ◌≤◌, ◌+◌, ℕ, filter, get_or, IfOk};
+ghost use Rattle.std.specs.List.Sorted.{IsPermutation, IsSorted, IsSortedByKey};
+ghost use Rattle.std.specs.Ordering.{nat_cmp};
+ghost use Rattle.acta_table.specs.declared.limits.TheConstants.{TABLE_SIZE};
 ghost use Rattle.acta_sets.specs.declared.held_op.HeldOp.{HeldOp};
 ghost use Rattle.acta_machine.specs.Table.{edges_in, operations_in};
 ghost use Rattle.acta_explore.specs.Equivalence.{by_line, is_on, line_ops as ops_by_line};
 ghost use Rattle.acta_explore.specs.Programs.{operated_lines};
-ghost use Rattle.acta_explore.specs.inside.Keys.{IsKeyOf, no_txn, txn_in};
+ghost use Rattle.acta_explore.specs.inside.Keys.{edge_cmp, IsKeyOf, IsTrimmed, no_txn, txn_in};
 
 use crate::plan::Plan;
 use crate::point::{Done, Point, Step};
 use acta_machine::{Handle, HeldOp, Machine, Permit};
 use acta_table::{ClassId, Edge, Status, TxnId};
 use std::alloc::{AllocError, Allocator};
-use std::hash::{Hash, Hasher};
 
 /// An operation, with the position of the line that did it.
 #[derive(Clone, Copy, PartialEq, Eq, Debug)]
+#[derive_where(Hash)]
 pub(crate) struct LineOp {
     pub(crate) line: usize,
+    #[derive_where(skip(Hash))]
     pub(crate) held: HeldOp,
 }
 
@@ -32,77 +33,77 @@ pub(crate) struct Txn {
     pub(crate) parent: Option<TxnId>,
 }
 
-/// The key of a point.
+/// The key of a point. Its hash is that of what the lines did, and of the order of the operations on each object.
 #[derive(Drop)]
-#[derive_where(PartialEq, Eq)]
+#[derive_where(PartialEq, Eq, Hash)]
 pub(crate) struct Key<A: Allocator> {
-    /// A hash of what the lines did, and of the order of the operations on each object.
-    pub(crate) digest: u64,
     /// How many events were admitted.
+    #[derive_where(skip(Hash))]
     pub(crate) kept: usize,
     /// What each line did.
     pub(crate) lines: Vec<Option<Done>, A>,
-    /// The machine's record of each transaction, by its number.
+    /// The machine's record of each transaction, by its number, up to the last one that has begun.
+    #[derive_where(skip(Hash))]
     pub(crate) txns: Vec<Txn, A>,
     /// The edges in force, in a fixed order.
+    #[derive_where(skip(Hash))]
     pub(crate) edges: Vec<Edge, A>,
     /// The operations, sorted by object.
     pub(crate) operations: Vec<LineOp, A>,
+    #[derive_where(skip(Hash))]
     pub(crate) permits: Vec<Permit, A>,
 }
 
-impl<A: Allocator> Hash for Key<A> {
-    ghost use Rattle.std.specs.Hash as fed;
-
-    ghost hash_input = { λ key. fed.u64 key.digest };
-
-    ghost respects_eq = { Prim.search (hashing, rules) };
-
-    fn hash<H: Hasher>(&self, state: &mut H) {
-        self.digest.hash(state);
+// The machine's record of a transaction.
+fn txn_of<A: Handle>(machine: &Machine<A>, t: usize) -> Txn
+    requires { t < TABLE_SIZE }
+    ensures { result ≡ txn_in machine.now t }
+{
+    let txn = TxnId(t as u16);
+    Txn {
+        status: machine.status(txn),
+        class: machine.class(txn),
+        parent: machine.parent(txn),
     }
 }
 
-// A digest (FNV-1a) extended by one part.
-fn digested(digest: u64, part: usize) -> u64 {
-    (digest ^ part as u64).wrapping_mul(0x100_0000_01b3)
-}
-
-// The hash of a key.
-fn digest_of(lines: &[Option<Done>], operations: &[LineOp]) -> u64 {
-    let mut digest = 0xcbf2_9ce4_8422_2325;
-    for line in lines {
-        let part = match line {
-            Some(done) => done.alternative.wrapping_add(1),
-            None => 0,
-        };
-        digest = digested(digest, part);
+// How many records there are, if those of transactions that have not begun are left out at the end.
+fn txn_count<A: Handle>(machine: &Machine<A>) -> usize
+    ensures few { result ≤ TABLE_SIZE }
+    ensures beyond { (t : ℕ) → result ≤ t → txn_in machine.now t ≡ no_txn }
+    ensures last { (t : ℕ) → result ≡ t + 1 → txn_in machine.now t ≡ no_txn → ⊥ }
+{
+    let not_begun = Txn {
+        status: Status::NotBegun,
+        class: None,
+        parent: None,
+    };
+    let mut count = 0;
+    for t in 0..machine.known_txns() {
+        if txn_of(machine, t) != not_begun {
+            count = t + 1;
+        }
     }
-    for op in operations {
-        digest = digested(digest, op.line);
-    }
-    digest
+    count
 }
 
 // The machine's record of each transaction.
 fn txns_of<A: Handle>(alloc: A, machine: &Machine<A>) -> Result<Vec<Txn, A>, AllocError>
-    ensures { IfOk result (λ txns. (t : ℕ) → get_or txns.items t no_txn ≡ txn_in machine.now t) }
+    ensures records { IfOk result (λ txns. (t : ℕ) → get_or txns.items t no_txn ≡ txn_in machine.now t) }
+    ensures trimmed { IfOk result (λ txns. IsTrimmed txns.items) }
 {
-    let mut txns = Vec::with_capacity(alloc, machine.known_txns())?;
-    for t in 0..machine.known_txns() {
-        let txn = TxnId(t as u16);
-        txns.push(Txn {
-            status: machine.status(txn),
-            class: machine.class(txn),
-            parent: machine.parent(txn),
-        })?;
+    let count = txn_count(machine);
+    let mut txns = Vec::with_capacity(alloc, count)?;
+    for t in 0..count {
+        txns.push(txn_of(machine, t))?;
     }
     Ok(txns)
 }
 
 // The edges in force, in a fixed order.
 fn edges_of<A: Handle>(alloc: A, machine: &Machine<A>) -> Result<Vec<Edge, A>, AllocError>
-    ensures { IfOk result (λ edges. IsPermutation (edges_in machine.now) edges.items) }
+    ensures all { IfOk result (λ edges. IsPermutation (edges_in machine.now) edges.items) }
+    ensures ascending { IfOk result (λ edges. IsSorted edge_cmp edges.items) }
 {
     let mut edges = Vec::from_slice(alloc, machine.edges())?;
     edges.sort_by_key(|edge| (edge.kind.code(), edge.j.0, edge.i.0))?;
@@ -137,7 +138,8 @@ fn line_ops<A: Allocator>(
 
 // The same, sorted by object; operations on one object keep their order.
 fn operations_of<A: Handle>(alloc: A, point: &Point<A>) -> Result<Vec<LineOp, A>, AllocError>
-    ensures { IfOk result (λ ops. (ob : ℕ) → filter (is_on ob) ops.items ≡ filter (is_on ob) (ops_by_line point.now)) }
+    ensures by_object { IfOk result (λ ops. (ob : ℕ) → filter (is_on ob) ops.items ≡ filter (is_on ob) (ops_by_line point.now)) }
+    ensures ascending { IfOk result (λ ops. IsSortedByKey (λ o. o.held.ob.0) nat_cmp ops.items) }
 {
     let mut ops = line_ops(alloc, point.steps(), point.machine().operations())?;
     ops.sort_by_key(|op| op.held.ob.0)?;
@@ -150,15 +152,12 @@ impl<A: Handle> Key<A> {
         ensures { IfOk result (IsKeyOf plan.now point.now) }
     {
         let machine = point.machine();
-        let lines = plan.lines_done(alloc, point.steps())?;
-        let operations = operations_of(alloc, point)?;
         Ok(Key {
-            digest: digest_of(lines.as_slice(), operations.as_slice()),
             kept: machine.history().len(),
-            lines,
+            lines: plan.lines_done(alloc, point.steps())?,
             txns: txns_of(alloc, machine)?,
             edges: edges_of(alloc, machine)?,
-            operations,
+            operations: operations_of(alloc, point)?,
             permits: machine.permits()?,
         })
     }

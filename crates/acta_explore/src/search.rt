@@ -1,14 +1,14 @@
 //! The search through all orders of steps, level by level: a level has the points that are equally many steps from the root,
 //! in the order of their first orders.
 
-ghost use Rattle.std.specs.Prelude.{◌≡◌, ◌<◌, ◌≤◌, ◌∷◌, [], length, map, not, option_map, slice_get, IfOk, IfErr, IfSome, OnOk};
-ghost use Rattle.std.specs.List.{flat_map};
-ghost use Rattle.acta_explore.specs.Ends.{AreAllEnds, AreAllEndsFrom, HaveSameOutcome, IsOver};
-ghost use Rattle.acta_explore.specs.Equivalence.{AreEquivalent};
+ghost use Rattle.std.specs.Prelude.{◌≡◌, ◌≤◌, ◌∷◌, [], length, map, not, option_map, slice_get, IfOk, IfErr, IfSome, OnOk};
+ghost use Rattle.acta_explore.specs.Ends.{AreAllEnds, AreAllEndsFrom, CountsPoints, HaveSameOutcome, IsOver};
+ghost use Rattle.acta_explore.specs.Equivalence.{AreApart, AreEquivalent};
 ghost use Rattle.acta_explore.specs.Outcomes.{outcome};
 ghost use Rattle.acta_explore.specs.declared.search.ExploreError.TheVariants as fault;
 ghost use Rattle.acta_explore.specs.inside.Keys.{IsKeyOf};
-ghost use Rattle.acta_explore.specs.inside.Merging.{AreAny, AreKeyed, AreOutcomes, HaveOthers, IsMerged, IsPut, points_of};
+ghost use Rattle.acta_explore.specs.inside.Merging.{AreKeyed, AreOutcomes, HaveOthers, IsCutOff, IsMerged, IsNextLevel, IsPut, points_of};
+ghost use Rattle.acta_explore.specs.Points.{start};
 ghost use Rattle.acta_explore.specs.inside.Shown.{shown};
 ghost use Rattle.acta_explore.specs.inside.Turns.{ends_among, is_nil, successors};
 
@@ -56,7 +56,7 @@ fn put<A: Handle>(
     requires keyed { AreKeyed plan.now level.old.entries }
     requires key { IsKeyOf plan.now point key }
     ensures keyed { OnOk result (AreKeyed plan.now level.new.entries) }
-    ensures put { OnOk result (IsPut (AreEquivalent plan.now) AreAny (points_of level.old.entries) point (points_of level.new.entries)) }
+    ensures put { OnOk result (IsPut (AreEquivalent plan.now) (AreApart plan.now) (points_of level.old.entries) point (points_of level.new.entries)) }
 {
     if level.contains_key(&key) {
         drop(key);
@@ -97,7 +97,7 @@ fn expand<A: Handle>(
 ) -> Result<bool, AllocError>
     requires { AreKeyed plan.now next.old.entries }
     ensures keyed { OnOk result (AreKeyed plan.now next.new.entries) }
-    ensures merged { OnOk result (IsMerged (AreEquivalent plan.now) AreAny (points_of next.old.entries) (successors plan.now point.now) (points_of next.new.entries)) }
+    ensures merged { OnOk result (IsMerged (AreEquivalent plan.now) (AreApart plan.now) (points_of next.old.entries) (successors plan.now point.now) (points_of next.new.entries)) }
     ensures has_step { IfOk result (λ b. b ≡ not (is_nil (successors plan.now point.now))) }
 {
     let done = plan.lines_done(alloc, point.steps())?;
@@ -126,7 +126,7 @@ fn settle<A: Handle>(
     requires outcomes { AreOutcomes plan.now ends.old.entries }
     ensures keyed { OnOk result (AreKeyed plan.now next.new.entries) }
     ensures outcomes { OnOk result (AreOutcomes plan.now ends.new.entries) }
-    ensures merged { OnOk result (IsMerged (AreEquivalent plan.now) AreAny (points_of next.old.entries) (successors plan.now point.now) (points_of next.new.entries)) }
+    ensures merged { OnOk result (IsMerged (AreEquivalent plan.now) (AreApart plan.now) (points_of next.old.entries) (successors plan.now point.now) (points_of next.new.entries)) }
     ensures ended { OnOk result (IsMerged (HaveSameOutcome plan.now) (HaveOthers plan.now) (points_of ends.old.entries) (ends_among plan.now (point.now ∷ [])) (points_of ends.new.entries)) }
 {
     if expand(alloc, plan, point, next)? {
@@ -152,9 +152,8 @@ fn next_level<A: Handle, W: Watch>(
     ensures keyed { IfOk result (λ next. AreKeyed plan.now next.entries) }
     ensures outcomes { OnOk result (AreOutcomes plan.now ends.new.entries) }
     ensures few { IfOk result (λ next. length next.entries ≤ room) }
-    ensures many { IfErr result (λ found. IfSome found (λ count. room < count)) }
-    ensures merged { IfOk result (λ next. IsMerged (AreEquivalent plan.now) AreAny [] (flat_map (successors plan.now) (points_of level.now.entries)) (points_of next.entries)) }
-    ensures ended { OnOk result (IsMerged (HaveSameOutcome plan.now) (HaveOthers plan.now) (points_of ends.old.entries) (ends_among plan.now (points_of level.now.entries)) (points_of ends.new.entries)) }
+    ensures level { IfOk result (λ next. IsNextLevel plan.now (points_of level.now.entries) (points_of ends.old.entries) (points_of next.entries) (points_of ends.new.entries)) }
+    ensures cut { IfErr result (λ found. IfSome found (λ count. IsCutOff plan.now (points_of level.now.entries) (points_of ends.old.entries) (points_of ends.new.entries) room count)) }
 {
     let mut next = IndexMap::new(alloc);
     for index in 0..level.len() {
@@ -254,7 +253,8 @@ pub fn explore<A: Handle, W: Watch>(
     ensures all { IfOk result (λ explored. AreAllEnds lines.now model.now explored.ends) }
     ensures outcomes { IfOk result (λ explored. explored.outcomes ≡ map (outcome lines.now) explored.ends) }
     ensures few { IfOk result (λ explored. explored.points ≤ most) }
-    ensures too_many { IfErr result (λ error. IsOver most error) }
+    ensures points { IfOk result (λ explored. CountsPoints lines.now (start model.now) explored.points) }
+    ensures too_many { IfErr result (λ error. IsOver lines.now (start model.now) most error) }
 {
     let start = Point::start(alloc, model)?;
     explore_from(alloc, &start, lines, most, watch)
@@ -273,7 +273,8 @@ pub fn explore_from<A: Handle, W: Watch>(
     ensures all { IfOk result (λ explored. AreAllEndsFrom lines.now root.now explored.ends) }
     ensures outcomes { IfOk result (λ explored. explored.outcomes ≡ map (outcome lines.now) explored.ends) }
     ensures few { IfOk result (λ explored. explored.points ≤ most) }
-    ensures too_many { IfErr result (λ error. IsOver most error) }
+    ensures points { IfOk result (λ explored. CountsPoints lines.now root.now explored.points) }
+    ensures too_many { IfErr result (λ error. IsOver lines.now root.now most error) }
 {
     if most == 0 {
         return Err(ExploreError::TooMany { points: 1, ends: 0 });
@@ -289,7 +290,7 @@ pub fn explore_from<A: Handle, W: Watch>(
             Ok(next) => next,
             Err(Some(found)) => {
                 return Err(ExploreError::TooMany {
-                    points: points.saturating_add(found as u64),
+                    points: points + found as u64,
                     ends: ends.len(),
                 });
             }

@@ -1,5 +1,5 @@
 -- The output of `explore` for programs.
-use Rattle.std.specs.Prelude.{◌≡◌, ◌<◌, ◌⊎◌, ⊤, ℕ, Bool, true, false, List, [], ◌∷◌, map, length, codes, decimal, Option, Some, None, Result, Ok, Err}
+use Rattle.std.specs.Prelude.{◌≡◌, ◌⊎◌, ⊤, ℕ, Bool, true, false, List, [], ◌∷◌, map, length, codes, decimal, Option, Some, None, Result, Ok, Err}
 use Rattle.acta_table.specs.declared.event.Kept.{Kept}
 use Rattle.acta_table.specs.declared.model.Parts.{Parts}
 use Rattle.acta_table.specs.Numbered.{item_at}
@@ -12,8 +12,8 @@ use Rattle.acta_io.specs.declared.models.NoModel.{NoModel}
 use Rattle.acta_io.specs.Models.{of_either}
 use Rattle.acta_io.specs.Reports.{Output, refused_by, refused_model, stop_line}
 use Rattle.acta_io.specs.Input.{Parsed, line_numbers, parsed_in}
-use Rattle.acta_explore.specs.Ends.{AreAllEnds}
-use Rattle.acta_explore.specs.Points.{Point}
+use Rattle.acta_explore.specs.Ends.{AreAllEnds, IsTooMany}
+use Rattle.acta_explore.specs.Points.{Point, start}
 use Rattle.acta_explore.specs.Programs.{Programs}
 use Rattle.acta_ends.specs.declared.condition.Condition.{Condition}
 use Rattle.acta_ends.specs.EndLines.{explored_lines}
@@ -24,16 +24,16 @@ use Rattle.acta_programs.specs.declared.args.Form.TheVariants.{Words, Lines, Eve
 abbrev pub incomplete_line : ℕ → ℕ → List ℕ
 incomplete_line points ends = line_of (codes "incomplete" ∷ decimal points ∷ decimal ends ∷ [])
 
--- the output is this line, with more points than allowed
-abbrev pub HasIncompleteLine : ℕ → Output → Type 0
-HasIncompleteLine most out =
-    (points : ℕ) × (ends : ℕ) × (most < points) × (out ≡ refused_by (incomplete_line points ends))
+-- the output after so many points and ends were found: words for a reader, otherwise this line
+abbrev pub TellsIncomplete : Form → ℕ → ℕ → Output → Type 0
+TellsIncomplete Words points ends out = out.is_refused ≡ true
+TellsIncomplete Lines points ends out = out ≡ refused_by (incomplete_line points ends)
+TellsIncomplete (Events number) points ends out = out ≡ refused_by (incomplete_line points ends)
 
--- the output after the search was given up: words for a reader, otherwise this line
-abbrev pub IsIncomplete : Form → ℕ → Output → Type 0
-IsIncomplete Words most out = out.is_refused ≡ true
-IsIncomplete Lines most out = HasIncompleteLine most out
-IsIncomplete (Events number) most out = HasIncompleteLine most out
+-- the search was given up: it found so many points, more than allowed, and so many ends
+abbrev pub IsIncomplete : {A : Type 0} → Form → ℕ → Parts A → Programs A → Output → Type 0
+IsIncomplete form most m programs out =
+    (points : ℕ) × (ends : ℕ) × IsTooMany programs (start m) most points ends × TellsIncomplete form points ends out
 
 -- the line of a kept event, without its return
 abbrev pub kept_event_line : {A : Type 0} → Parts A → Kept A → List ℕ
@@ -69,7 +69,7 @@ IsComplete {A = A} form m programs numbers c out =
 
 -- the output for programs: for all ends, unless the search was given up
 abbrev pub IsSearched : {A : Type 0} → Form → ℕ → Parts A → Programs A → List ℕ → Condition A → Output → Type 0
-IsSearched form most m programs numbers c out = IsComplete form m programs numbers c out ⊎ IsIncomplete form most out
+IsSearched form most m programs numbers c out = IsComplete form m programs numbers c out ⊎ IsIncomplete form most m programs out
 
 -- the possible conditions, by whether one is given: without one there is no test, so that it holds for each end
 abbrev pub MayMean : {A : Type 0} → Bool → Condition A → Type 0

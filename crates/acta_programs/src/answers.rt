@@ -1,12 +1,13 @@
 //! The ends as lines or as events, for other programs.
 
-ghost use Rattle.std.specs.Prelude.{◌≡◌, ◌<◌, ◌++◌, ◌∷◌, [], false, length, map, option_map, IfOk, OnOk};
+ghost use Rattle.std.specs.Prelude.{◌≡◌, ◌++◌, ◌∷◌, [], false, length, map, option_map, IfOk, OnOk};
 ghost use Rattle.acta_table.specs.Numbered.{item_at};
 ghost use Rattle.acta_words.specs.Text.{text_of};
 ghost use Rattle.acta_script.specs.Writing.{event_line};
 ghost use Rattle.acta_explore.specs.Outcomes.{outcome};
+ghost use Rattle.acta_io.specs.Reports.{refused_by};
 ghost use Rattle.acta_io.specs.inside.Reports.{output_of};
-ghost use Rattle.acta_programs.specs.Answers.{HasIncompleteLine, IsOfEnds, end_events, incomplete_line, kept_event_line, no_end_line, order_events};
+ghost use Rattle.acta_programs.specs.Answers.{IsOfEnds, end_events, incomplete_line, kept_event_line, no_end_line, order_events};
 ghost use Rattle.acta_programs.specs.declared.args.Form.TheVariants.{Lines as lines_form};
 
 use acta_ends::{Condition, ends_lines};
@@ -36,14 +37,11 @@ fn incomplete_line<A: Allocator>(
 /// The report if the search was given up after this many points and ends.
 pub(crate) fn write_incomplete<A: Allocator + Copy>(
     alloc: A,
-    most: u32,
     points: u64,
     ends: usize,
 ) -> Result<Report<A>, AllocError>
-    requires { most < points }
-    ensures { IfOk result (λ report. HasIncompleteLine most (output_of report)) }
+    ensures { IfOk result (λ report. output_of report ≡ refused_by (incomplete_line points ends)) }
 {
-    let _ = most;
     let line = incomplete_line(alloc, points, ends)?;
     refuse_by(alloc, line.as_slice())
 }

@@ -1,9 +1,9 @@
 //! The ways in which programs that continue from the state of a machine can end, in words.
 
-ghost use Rattle.std.specs.Prelude.{◌≡◌, ◌<◌, length, IfOk};
+ghost use Rattle.std.specs.Prelude.{◌≡◌, length, IfOk};
 ghost use Rattle.std.specs.Io.{StartsWith};
 ghost use Rattle.acta_explore.specs.Histories.{programs_after};
-ghost use Rattle.acta_programs.specs.From.{IsAnswerAfter, IsAnswerFrom, IsGivenUp, ends_line, given_up_line};
+ghost use Rattle.acta_programs.specs.From.{IsAnswerAfter, IsAnswerFrom, ends_line, given_up_line};
 
 use crate::ends::{EndCount, put_ends, put_kinds};
 use crate::programs::Programs;
@@ -119,8 +119,7 @@ fn explain_given_up<A: Handle>(
     points: u64,
     ends: usize,
 ) -> Result<Vec<u8, A>, AllocError>
-    requires { most < points }
-    ensures { IfOk result (λ text. IsGivenUp most text.items) }
+    ensures { IfOk result (λ text. StartsWith text.items (given_up_line points ends)) }
 {
     let rest = format!(in alloc;
         " were found, and at most {most} points are searched. There may be other ends.\n"

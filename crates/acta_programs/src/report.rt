@@ -5,7 +5,7 @@ ghost use Rattle.acta_explore.specs.Outcomes.{outcome};
 ghost use Rattle.acta_io.specs.Outcome.{AnswersBy, FailsBy, IsUnreadTooLong, KeepsUnread, WritesBy, reason_of};
 ghost use Rattle.acta_io.specs.Input.{line_numbers};
 ghost use Rattle.acta_io.specs.inside.Reports.{output_of};
-ghost use Rattle.acta_programs.specs.Answers.{IsAnswer, IsAnswerOn, IsIncomplete, IsOfEnds, IsOfPrograms, IsSearched, MayMean};
+ghost use Rattle.acta_programs.specs.Answers.{IsAnswer, IsAnswerOn, IsOfEnds, IsOfPrograms, IsSearched, MayMean, TellsIncomplete};
 ghost use Rattle.acta_programs.specs.inside.Conditions.{MayFail};
 
 use crate::answers::{write_events, write_incomplete, write_lines};
@@ -79,13 +79,11 @@ fn write_given_up<A: Handle>(
     points: u64,
     ends: usize,
 ) -> Result<Report<A>, AllocError>
-    requires { most < points }
-    ensures { IfOk result (λ report. IsIncomplete form most (output_of report)) }
+    ensures { IfOk result (λ report. TellsIncomplete form points ends (output_of report)) }
 {
     match form {
         Form::Words => explain_incomplete(alloc, most, points, ends),
-        Form::Lines => write_incomplete(alloc, most, points, ends),
-        Form::Events(_) => write_incomplete(alloc, most, points, ends),
+        Form::Lines | Form::Events(_) => write_incomplete(alloc, points, ends),
     }
 }
 

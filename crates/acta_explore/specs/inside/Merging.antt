@@ -1,13 +1,16 @@
 -- Lists of points to which others are added, unless they are related to one that is there.
-use Rattle.std.specs.Prelude.{◌≡◌, ◌⊎◌, ⊤, List, [], ◌∷◌, ◌++◌, map}
-use Rattle.std.specs.List.{All, Contains}
+use Rattle.std.specs.Prelude.{◌≡◌, ◌⊎◌, ◌<◌, ◌^◌, ℕ, List, [], ◌∷◌, ◌++◌, length, map, take}
+use Rattle.std.specs.List.{All, Contains, flat_map}
 use Rattle.acta_explore.specs.declared.key.Key.{Key}
 use Rattle.acta_explore.specs.declared.outcome.Outcome.{Outcome}
+use Rattle.acta_explore.specs.Ends.{HaveSameOutcome}
+use Rattle.acta_explore.specs.Equivalence.{AreEquivalent, AreApart}
 use Rattle.acta_explore.specs.Outcomes.{Outcome as an_outcome, outcome}
 use Rattle.acta_explore.specs.Points.{Point}
 use Rattle.acta_explore.specs.Programs.{Programs}
 use Rattle.acta_explore.specs.inside.Keys.{IsKeyOf}
 use Rattle.acta_explore.specs.inside.Shown.{shown}
+use Rattle.acta_explore.specs.inside.Turns.{ends_among, successors}
 
 -- some point of the list is related to this one
 pub record HasLike {A : Type 0} (R : Point A → Point A → Type 0) (points : List (Point A)) (q : Point A) : Type 0 where
@@ -23,10 +26,6 @@ IsPut R Unlike old p new = ((new ≡ old ++ p ∷ []) × All (λ x. Unlike x p) 
 abbrev pub IsMerged : {A : Type 0} → (Point A → Point A → Type 0) → (Point A → Point A → Type 0) → List (Point A) → List (Point A) → List (Point A) → Type 0
 IsMerged R Unlike old [] new = new ≡ old
 IsMerged R Unlike old (p ∷ ps) new = (mid : List (Point _)) × IsPut R Unlike old p mid × IsMerged R Unlike mid ps new
-
--- the relation that holds of any two points
-abbrev pub AreAny : {A : Type 0} → Point A → Point A → Type 0
-AreAny p q = ⊤
 
 -- the two have different outcomes
 abbrev pub HaveOthers : {A : Type 0} → Programs A → Point A → Point A → Type 0
@@ -47,3 +46,17 @@ AreKeyed programs entries = All (λ e. IsKeyOf programs e.1 e.0) entries
 -- each outcome is that of its point
 abbrev pub AreOutcomes : {A : Type 0} → Programs A → List (Outcome A × Point A) → Type 0
 AreOutcomes programs entries = All (λ e. shown e.0 ≡ outcome programs e.1) entries
+
+-- the points after each step from the points of a level, each once up to equivalence, and the ends after those of the level
+pub record IsNextLevel {A : Type 0} (programs : Programs A) (level old next new : List (Point A)) : Type 0 where
+  pub points : IsMerged (AreEquivalent programs) (AreApart programs) [] (flat_map (successors programs) level) next
+  pub ends : IsMerged (HaveSameOutcome programs) (HaveOthers programs) old (ends_among programs level) new
+
+-- the first points of a level lead to so many points already, more than there is room for
+pub record IsCutOff {A : Type 0} (programs : Programs A) (level old new : List (Point A)) (room count : ℕ) : Type 0 where
+  pub n : ℕ
+  pub next : List (Point A)
+  pub after : IsNextLevel programs (take n level) old next new
+  pub counted : count ≡ length next
+  pub more : room < count
+  pub small : count < 2 ^ 63

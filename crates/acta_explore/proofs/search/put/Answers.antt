@@ -11,4 +11,4 @@ returns-clause-keyed g c =
 
 pub returns-clause-put : goal.returns-clause-put
 returns-clause-put g c =
-    put-new c.args.plan.now c.args.point c.args.key c.args.level.now.entries c.insert.new.self.entries (sym c.contains_key.ensures ∙ c.if-contains_key.false) c.in_ok-insert.ensures.entries
+    put-new c.args.plan.now c.args.point c.args.key c.args.level.now.entries c.insert.new.self.entries c.requires.keyed c.requires.key (sym c.contains_key.ensures ∙ c.if-contains_key.false) c.in_ok-insert.ensures.entries

@@ -6,4 +6,4 @@ use Rattle.acta_programs.proofs.answers.write_incomplete.Goals as goal
 pub returns : goal.returns
 returns g c =
     let line = c.as_slice.ensures.value ∙ c.in_ok-line.ensures in
-    IfOk-weaker c.refuse_by.result _ _ (λ report e. (c.args.points, c.args.ends, c.requires, e ∙ ap refused_by line)) c.refuse_by.ensures
+    IfOk-weaker c.refuse_by.result _ _ (λ report e. e ∙ ap refused_by line) c.refuse_by.ensures

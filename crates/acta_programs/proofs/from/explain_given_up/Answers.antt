@@ -6,4 +6,4 @@ pub returns : goal.returns
 returns g c =
     let rest = c.as_bytes.result.now in
     let text = c.in_ok-extend_from_slice.ensures.items ∙ ap (λ line. line ++ rest) c.in_ok-text.ensures in
-    (c.args.points, c.args.ends, c.requires, starts_with_of_append _ _ rest text)
+    starts_with_of_append _ _ rest text
