@@ -1,5 +1,5 @@
 -- The searches of a walk find what the definitions say.
-use Rattle.std.proofs.Common.{if◌then◌else◌, ◌≡◌, ℕ, suc, ◌+◌, ◌-◌, ◌<◌, ◌==◌, Bool, true, false, ◌&&◌, ◌||◌, not, List, [], ◌∷◌, map, filter, Option, Some, None, refl, sym, ap, ◌∙◌, arith}
+use Rattle.std.proofs.Common.{if◌then◌else◌, ◌≡◌, ℕ, suc, ◌+◌, ◌-◌, ◌<◌, ◌≤◌, length, ◌==◌, Bool, true, false, ◌&&◌, ◌||◌, not, List, [], ◌∷◌, map, filter, Option, Some, None, refl, sym, ap, ◌∙◌, arith}
 use Rattle.std.specs.Prelude.{slice_get}
 use Rattle.std.proofs.lemmas.Option.{slice_get-map}
 use Rattle.std.specs.Prelude.{option_map}
@@ -36,12 +36,14 @@ use Rattle.acta_objects.specs.Conflicts.{conflict_on}
 use Rattle.acta_table.specs.Classes.{kind_at}
 use Rattle.acta_table.specs.Numbered.{numbers_from}
 use Rattle.acta_sets.specs.declared.held_op.HeldOp.{HeldOp}
-use Rattle.acta_sets.specs.Operations.{is_held, ops_conflict, is_against as is_against_in, holders_against as holders_against_in}
+use Rattle.acta_sets.specs.Operations.{is_held, ops_conflict, is_against_but, is_against as is_against_in, holders_against as holders_against_in}
+use Rattle.acta_sets.specs.Lineages.{Lineage, parent_in, AreExempt as AreExempted}
+use Rattle.acta_sets.proofs.Lineages.{exempt-all}
 use Rattle.acta_axioms.specs.declared.seeking.Sought.TheVariants.{Others, Against}
-use Rattle.acta_axioms.specs.History.{has_class, class_of, ancestors}
+use Rattle.acta_axioms.specs.History.{has_class, class_of, parent_of, ancestors}
 use Rattle.acta_axioms.specs.Operations.{Operation, Standing, standing, operations, is_exempt, is_of_others, access_set, conflict_set}
 use Rattle.acta_axioms.specs.Permits.{is_permitted}
-use Rattle.acta_values.specs.Conflicts.{is_against_but, is_well_formed}
+use Rattle.acta_values.specs.Conflicts.{is_well_formed}
 use Rattle.acta_axioms.specs.Values.{do_conflict, conflicting, value}
 use Rattle.acta_axioms.specs.Edges.{holders_against, formed_by}
 use Rattle.acta_axioms.specs.Walks.{held_op, held_ops, op_numbers}
@@ -77,6 +79,12 @@ pub exempt-on : {A : Type 0} (m : Parts A) (h : List (Kept A)) (t object : ℕ) 
     → ((u : ℕ) → list_any (λ k. k == u) keys ≡ (list_any (λ k. k == u) base || list_any (λ s. s.0 == u) found)) → AreExempt m h t object keys
 exempt-on m h t object base keys found ancestors_are permit all u =
     all u ∙ (λ i. (ap (λ (ns : List ℕ). list_any (λ k. k == u) ns) ancestors_are ∙ sym (any-number u (exempt_numbers m h t)) ∙ in-exempt m h t u) i || permit u i)
+
+-- ancestors that are remembered are exempt, for a class that exempts ancestors
+pub exempt-remembered : {A : Type 0} (m : Parts A) (h : List (Kept A)) (t object : ℕ) (l : Lineage) → has_class (λ k. exempts k.scope) m h t ≡ true → ((u : ℕ) (p : TxnId) → parent_in l u ≡ Some p → parent_of h u ≡ Some p) → l.most ≤ length h
+    → AreExempted l t (is_exempt m h t object)
+exempt-remembered m h t object l has right deep =
+    exempt-all l t (length h) (parent_of h) (is_exempt m h t object) deep right (λ u e. (λ i. (has i && e i) || is_permitted h u t object))
 
 none_and : (a : Bool) → (a && false) ≡ false
 none_and true = refl

@@ -1,25 +1,28 @@
 -- The data that a walk keeps, after one more item.
-use Rattle.std.proofs.Common.{subst, ◌≡◌, ℕ, zero, suc, ◌+◌, ◌<◌, List, [], ◌∷◌, ◌++◌, length, take, drop, get_or, Option, Some, is_some, refl, sym, ap, ◌∙◌, arith}
+use Rattle.std.proofs.Common.{subst, ◌≡◌, ◌≤◌, ◌==◌, inl, inr, if◌then◌else◌, Bool, true, false, None, ℕ, zero, suc, ◌+◌, ◌<◌, List, [], ◌∷◌, ◌++◌, length, take, drop, get_or, Option, Some, is_some, refl, sym, ap, ◌∙◌, arith}
 use Rattle.std.specs.Prelude.{slice_get, option_to_list}
 use Rattle.std.specs.List.{All}
 use Rattle.std.proofs.lemmas.List.{take_more, length-drop}
 use Rattle.std.proofs.lemmas.Option.{none-some, same_Some}
 use Rattle.acta_table.specs.declared.dep.Edge.{Edge}
+use Rattle.acta_table.specs.declared.event.Event.{Event}
+use Rattle.acta_table.specs.declared.event.Event.TheVariants.{Begin, Spawn, Split, Join, Delegate, Form, Operate, Commit, Abort, Permit}
 use Rattle.acta_table.specs.declared.event.Kept.{Kept}
 use Rattle.acta_table.specs.declared.event.TxnId.{TxnId}
 use Rattle.acta_table.specs.declared.model.Parts.{Parts}
 use Rattle.acta_table.specs.Edges.{formed}
 use Rattle.acta_table.specs.Events.{named}
+use Rattle.acta_sets.specs.Lineages.{Lineage, parent_in}
 use Rattle.acta_values.specs.Stores.{Stored}
 use Rattle.acta_axioms.specs.declared.txn_record.TxnRecord.{TxnRecord}
 use Rattle.acta_axioms.specs.Edges.{formed_by, edges}
 use Rattle.acta_axioms.specs.Walks.{Walked, stepped, with_next, held_ops}
 use Rattle.acta_axioms.specs.inside.Holding.{brought_from, op_done}
-use Rattle.acta_axioms.specs.inside.TxnRecords.{unbegun, begun_in, ended_in, is_late, further, heir_in}
-use Rattle.acta_axioms.specs.inside.Walking.{permits_after, is_left, IsKept}
+use Rattle.acta_axioms.specs.inside.TxnRecords.{unbegun, begun_in, ended_in, is_late, further, heir_in, started, or_at}
+use Rattle.acta_axioms.specs.inside.Walking.{permits_after, is_left, AreRemembered, IsKept}
 use Rattle.acta_axioms.proofs.Permitting.{left-push}
 use Rattle.acta_sets.specs.Permits.{Permitted}
-use Rattle.acta_axioms.specs.History.{end}
+use Rattle.acta_axioms.specs.History.{end, starts}
 use Rattle.acta_axioms.proofs.Bringing.{held_ops-push}
 use Rattle.acta_axioms.proofs.EdgeGrowth.{edges-push}
 use Rattle.acta_axioms.proofs.TxnRecords.{lines-more, heir-tabled}
@@ -54,11 +57,35 @@ shown-more {A} m h n k w next is =
     ∙ (λ i. with_next (record { model = m; front = take n h; ahead = drop n h }) (sym next.ahead i))
     ∙ ap stepped is
 
+same_if : (b : Bool) (new line : TxnRecord) → new.parent ≡ line.parent → (if b then new else line).parent ≡ line.parent
+same_if true new line e = e
+same_if false new line e = refl
+
+-- the parent of a transaction that an event does not start
+parent_kept : {A : Type 0} (place : ℕ) (begun : ℕ → Bool) (e : Event A) (t : ℕ) (line : TxnRecord) → starts t e ≡ false → (further place begun e t line).parent ≡ line.parent
+parent_kept place begun (Begin s class) t line off = ap (λ b. (if b then started place class None line else line).parent) off
+parent_kept place begun (Spawn v s class) t line off = ap (λ b. (if b then started place class (if begun v.0 then Some v else None) line else line).parent) off
+parent_kept place begun (Split v s class ops) t line off = ap (λ b. (if b then started place class None line else line).parent) off
+parent_kept place begun (Join s u) t line off = same_if (s.0 == t) (record line { course = record line.course { join = or_at place line.course.join } }) line refl
+parent_kept place begun (Delegate s u ops) t line off = refl
+parent_kept place begun (Form kind j i) t line off = refl
+parent_kept place begun (Operate s ob op) t line off = refl
+parent_kept place begun (Commit s) t line off = same_if (s.0 == t) (record line { course = record line.course { commit = or_at place line.course.commit } }) line refl
+parent_kept place begun (Abort s) t line off = same_if (s.0 == t) (record line { course = record line.course { abort = or_at place line.course.abort } }) line refl
+parent_kept place begun (Permit s u ob) t line off = refl
+
+remembered_more : {A : Type 0} (place : ℕ) (begun : ℕ → Bool) (e : Event A) (lines new_lines : List TxnRecord) (old new : Lineage) → ((t : ℕ) → get_or new_lines t unbegun ≡ further place begun e t (get_or lines t unbegun))
+    → ((t : ℕ) (p : TxnId) → parent_in old t ≡ Some p → (get_or lines t unbegun).parent ≡ Some p) → AreRemembered old new new_lines e → (t : ℕ) (p : TxnId) → parent_in new t ≡ Some p → (get_or new_lines t unbegun).parent ≡ Some p
+remembered_more place begun e lines new_lines old new noted before are t p is = elim (are t p is) [
+  | inl kept ↦ ap (λ (line : TxnRecord). line.parent) (noted t) ∙ parent_kept place begun e t (get_or lines t unbegun) kept.0 ∙ before t p kept.1
+  | inr here ↦ here
+]
+
 -- the kept data
-pub kept-more : {A : Type 0} (m : Parts A) (h : List (Kept A)) (n : ℕ) (k : Kept A) (lines new_lines : List TxnRecord) (store new_store : Stored) (es new_es : List Edge) (ps new_ps : Permitted) (left : Option TxnId) → IsNext h n k →
+pub kept-more : {A : Type 0} (m : Parts A) (h : List (Kept A)) (n : ℕ) (k : Kept A) (lines new_lines : List TxnRecord) (store new_store : Stored) (es new_es : List Edge) (ps new_ps : Permitted) (left : Option TxnId) (parents : Lineage) → IsNext h n k →
     IsKept m h n lines store es ps → new_es ≡ formed es (formed_by m (take n h) k.event) → left ≡ heir_in m lines k.event → new_store ≡ record store { items = brought_from left k.event 1 store.items ++ option_to_list (op_done k.event) } → new_ps ≡ permits_after (is_late (ended_in lines) k.event) k.event ps →
-    length new_lines ≡ length lines → ((t : ℕ) → get_or new_lines t unbegun ≡ further (n + 1) (begun_in lines) k.event t (get_or lines t unbegun)) → IsKept m h (n + 1) new_lines new_store new_es new_ps
-kept-more m h n k lines new_lines store new_store es new_es ps new_ps left next kept formed_are left_is brought_are permitted_are long noted =
+    length new_lines ≡ length lines → ((t : ℕ) → get_or new_lines t unbegun ≡ further (n + 1) (begun_in lines) k.event t (get_or lines t unbegun)) → AreRemembered store.lineage parents new_lines k.event → parents.most ≤ store.lineage.most + 1 → IsKept m h (n + 1) new_lines (record new_store { lineage = parents }) new_es new_ps
+kept-more m h n k lines new_lines store new_store es new_es ps new_ps left parents next kept formed_are left_is brought_are permitted_are long noted remembered_are most =
     let within : n < length h = next.within in
     let front = front-more h n k next in
     record {
@@ -76,6 +103,8 @@ kept-more m h n k lines new_lines store new_store es new_es ps new_ps left next 
           ap (λ (p : Permitted). p s t object) (permitted_are ∙ (λ i. permits_after (is_late (λ u. is_some (end (kept.lines_are u i).course)) k.event) k.event (λ u v o. kept.permits_are u v o i)))
           ∙ sym (left-push (take n h) k s t object)
           ∙ ap (λ g. is_left g s t object) front;
+      remembered = remembered_more (n + 1) (begun_in lines) k.event lines new_lines store.lineage parents noted kept.remembered remembered_are;
+      deep = let deep = kept.deep in omega (arith, most, deep);
       edges_are = formed_are ∙ ap (λ fs. formed fs (formed_by m (take n h) k.event)) kept.edges_are ∙ sym (edges-push m (take n h) k) ∙ ap (edges m) front;
     }
 

@@ -173,12 +173,19 @@ impl<'a, A: Handle> Walk<'a, A> {
             && self.do_conflict(object, &item.op, op)
     }
 
-    /// Whether an operation in progress of another on this object conflicts with this one, exempt or not. If none does,
-    /// none of the conflict set does.
+    /// Whether an operation in progress of another on this object conflicts with this one, exempt or not, and not only those
+    /// of ancestors that are exempt do. If none does, none of the conflict set does.
     pub(crate) fn may_conflict(&self, t: TxnId, object: ObjId, op: &Op) -> bool
         ensures { result ≡ false → list_any (is_against self.now.model self.now.front t.0 object.0 op.now) (held_ops self.now.model self.now.front) ≡ false }
     {
-        acta_values::may_conflict(self.allocator(), self.model, self.table(), t, object, op)
+        let operations = self.store.operations();
+        if !acta_values::may_conflict(self.allocator(), self.model, operations, t, object, op) {
+            return false;
+        }
+        if !self.exempts_ancestors(t) {
+            return true;
+        }
+        !self.store.is_clear(t, object, op)
     }
 
     /// Whether an operation on this object in the transaction's conflict set, given those exempt, conflicts with this

@@ -1,10 +1,11 @@
-ghost use Rattle.std.specs.Prelude.{◌≡◌, ◌<◌, ◌++◌, length, option_to_list, OnOk, OnErr};
+ghost use Rattle.std.specs.Prelude.{◌≡◌, ◌<◌, ◌≤◌, ◌+◌, ◌++◌, length, option_to_list, OnOk, OnErr};
 ghost use Rattle.acta_sets.specs.Permits.{permitted};
-ghost use Rattle.acta_axioms.specs.inside.Walking.{permits_left, permits_after};
+ghost use Rattle.acta_axioms.specs.inside.Walking.{permits_left, permits_after, AreRemembered};
 ghost use Rattle.acta_table.specs.Edges.{formed};
 ghost use Rattle.acta_axioms.specs.inside.Holding.{brought_from, op_done};
 
 use crate::forming::{Formed, form_all};
+use crate::txn_record::{TxnRecord, record_of};
 use acta_sets::{Handle, Permits};
 use acta_table::{Edge, Event, Fate, MOST_EVENTS, TxnId};
 use acta_values::Store;
@@ -38,6 +39,17 @@ fn follow<A: Handle>(
         }
         Event::Operate(t, object, op) => store.add(*t, *object, *op),
         _ => Ok(()),
+    }
+}
+
+/// Remembers the parent of the transaction that the event starts, which the table has.
+pub(crate) fn remember<A: Handle>(store: &mut Store<A>, lines: &[TxnRecord], event: &Event<A>)
+    ensures others { store.new ≡ record store.old { lineage = store.new.lineage } }
+    ensures remembered { AreRemembered store.old.lineage store.new.lineage lines.now event.now }
+    ensures most { store.new.lineage.most ≤ store.old.lineage.most + 1 }
+{
+    if let Some(t) = event.started() {
+        store.enter(t, record_of(lines, t).parent);
     }
 }
 

@@ -14,7 +14,7 @@ ghost use Rattle.acta_axioms.specs.inside.TxnRecords.{txn_record};
 use crate::course::Course;
 use crate::forming::Formed;
 use crate::seeking::Sought;
-use crate::taking::{Before, go_on};
+use crate::taking::{Before, go_on, remember};
 use crate::txn_record::{TxnRecord, UNBEGUN, heir_of, is_late, largest_named, note, record_of};
 use acta_objects::ObjectState;
 use acta_sets::{Handle, HeldOp, OpTable, Permits};
@@ -92,6 +92,7 @@ impl<'a, A: Handle> Walk<'a, A> {
         )?;
         self.taken += 1;
         note(self.lines.as_mut_slice(), self.taken as u32, &item.event);
+        remember(&mut self.store, self.lines.as_slice(), &item.event);
         Ok(())
     }
 

@@ -12,8 +12,8 @@ use Rattle.acta_table.specs.Fates.{is_open}
 use Rattle.acta_table.specs.Numbered.{first_number, ascending}
 use Rattle.acta_table.proofs.AscendingSets.{in-ascending, any-number}
 use Rattle.acta_sets.specs.declared.held_op.HeldOp.{HeldOp}
-use Rattle.acta_sets.specs.Operations.{ops_conflict, is_among, is_of_others, is_against, holders_against}
-use Rattle.acta_values.specs.Conflicts.{is_against_but, is_well_formed}
+use Rattle.acta_sets.specs.Operations.{ops_conflict, is_among, is_of_others, is_against, holders_against, is_against_but}
+use Rattle.acta_values.specs.Conflicts.{is_well_formed}
 use Rattle.acta_axioms.specs.inside.Wanted.{edges_wanted}
 use Rattle.acta_axioms.proofs.Conflicts.{suits-conflicts, ill-conflicts}
 use Rattle.acta_machine.specs.Summary.{Summary}

@@ -22,3 +22,4 @@ pub mod StatusGrowth
 pub mod Steps
 pub mod Unbroken
 pub mod ValueTies
+mod Remembering

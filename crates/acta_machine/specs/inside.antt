@@ -4,3 +4,4 @@ pub mod Broken
 pub mod Refused
 pub mod Abstraction
 pub mod Exempt
+pub mod Remembered

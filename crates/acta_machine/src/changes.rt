@@ -18,6 +18,7 @@ ghost use Rattle.acta_machine.specs.Changes.{begun, settled, changed};
 ghost use Rattle.acta_machine.specs.Rules.{not_in_progress, already_begun, dependency};
 ghost use Rattle.acta_machine.specs.inside.FreshEdges.{is_fresh_edge};
 ghost use Rattle.acta_machine.specs.inside.Abstraction.{abstraction};
+ghost use Rattle.acta_machine.specs.inside.Remembered.{IsNoted};
 
 use crate::machine_state::{MachineState, TxnRecord};
 use acta_sets::Handle;
@@ -268,6 +269,25 @@ impl<A: Handle> MachineState<A> {
         Ok(count)
     }
 
+    // Remembers the parent of the transaction that the event begins.
+    fn remember(&mut self, event: &Event<A>)
+        ensures noted { IsNoted self.old.store.lineage self.new.store.lineage event.now }
+        ensures others { self.new ≡ record self.old { store = record self.old.store { lineage = self.new.store.lineage } } }
+    {
+        match event {
+            Event::Begin(t, _) => self.store.enter(*t, None),
+            Event::Spawn(t, c, _) => self.store.enter(*c, Some(*t)),
+            Event::Split(_, u, _, _) => self.store.enter(*u, None),
+            Event::Join(_, _)
+            | Event::Delegate(_, _, _)
+            | Event::Form(_, _, _)
+            | Event::Operate(_, _, _)
+            | Event::Commit(_)
+            | Event::Abort(_)
+            | Event::Permit(_, _, _) => {}
+        }
+    }
+
     /// Carries out an admitted event: forms these edges, changes transactions, permits and operations, and keeps the
     /// event. On `Err` nothing changes: new edges are removed again.
     pub(crate) fn admit(
@@ -291,6 +311,8 @@ impl<A: Handle> MachineState<A> {
         ensures model { self.new.model ≡ self.old.model }
         ensures kinds { self.new.store.kinds ≡ self.old.store.kinds }
         ensures records { length self.new.records.items ≤ TABLE_SIZE }
+        ensures noted { OnOk result (IsNoted self.old.store.lineage self.new.store.lineage event.now) }
+        ensures forgotten { OnErr result (self.new.store.lineage ≡ self.old.store.lineage) }
         ensures err { OnErr result (abstraction self.new ≡ abstraction self.old) }
         ensures as_it_was { OnErr result (self.new.kept.items ≡ self.old.kept.items) }
     {
@@ -300,6 +322,7 @@ impl<A: Handle> MachineState<A> {
             return Err(error);
         }
         self.keep(kept);
+        self.remember(event);
         Ok(())
     }
 }

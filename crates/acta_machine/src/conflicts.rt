@@ -6,6 +6,7 @@ ghost use Rattle.acta_table.specs.Numbered.{first_number};
 ghost use Rattle.acta_machine.specs.Changes.{edges_due};
 ghost use Rattle.acta_machine.specs.Conflicts.{stands_against, conflicting_holders, conflict_edges};
 ghost use Rattle.acta_machine.specs.inside.Abstraction.{abstraction};
+ghost use Rattle.acta_machine.specs.inside.Remembered.{IsRemembered};
 
 use crate::machine_state::MachineState;
 use acta_axioms::edges_wanted;
@@ -23,10 +24,14 @@ impl<A: Handle> MachineState<A> {
         ob: ObjId,
         op: &Op,
     ) -> Result<Option<u32>, AllocError>
+        requires { IsRemembered self.now.store.lineage (abstraction self.now) }
         ensures { IfOk result (λ number. number ≡ first_number (stands_against self.now.model (abstraction self.now) t.0 ob op.now) self.now.store.items) }
     {
         let alloc = self.allocator();
         if !may_conflict(alloc, &self.model, self.operations(), t, ob, op) {
+            return Ok(None);
+        }
+        if self.exempts_ancestors(t) && self.store.is_clear(t, ob, op) {
             return Ok(None);
         }
         let exempts = self.exempt_on(t, ob)?;

@@ -52,6 +52,7 @@ impl<A: Handle> std::marker::Model for Machine<A> {
     ghost use Rattle.acta_machine.specs.Changes.{summary_of};
     ghost use Rattle.acta_machine.specs.inside.Refused.{AreRefused};
     ghost use Rattle.acta_machine.specs.inside.Abstraction.{abstraction};
+    ghost use Rattle.acta_machine.specs.inside.Remembered.{IsRemembered};
     ghost use Rattle.acta_machine.specs.Places.{FollowsPlaces};
     ghost use Rattle.acta_values.specs.KeptValues.{kinds_of};
     ghost use Rattle.acta_table.specs.declared.limits.TheConstants.{MOST_EVENTS, TABLE_SIZE};
@@ -61,6 +62,7 @@ impl<A: Handle> std::marker::Model for Machine<A> {
     ghost invariant = { λ m. record {
       agrees : abstraction m.machine_state ≡ summary_of m.machine_state.model m.machine_state.kept.items;
       records : length m.machine_state.records.items ≤ TABLE_SIZE;
+      remembered : IsRemembered m.machine_state.store.lineage (abstraction m.machine_state);
       kinds : m.machine_state.store.kinds ≡ kinds_of m.machine_state.model.objects;
       within : length m.machine_state.kept.items ≤ MOST_EVENTS;
       follows : FollowsPlaces (record { model = m.machine_state.model; kept = m.machine_state.kept.items });

@@ -282,8 +282,8 @@ impl<A: Handle> MachineState<A> {
         self.model.class(class)
     }
 
-    // Whether the transaction's class exempts ancestors.
-    fn exempts_ancestors(&self, t: TxnId) -> bool
+    /// Whether the transaction's class exempts ancestors.
+    pub(crate) fn exempts_ancestors(&self, t: TxnId) -> bool
         ensures { result ≡ has_class (λ k. exempts k.scope) self.now.model (abstraction self.now) t.0 }
     {
         match self.class_of(t) {

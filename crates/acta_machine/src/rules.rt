@@ -15,6 +15,7 @@ ghost use Rattle.acta_sets.specs.Operations.{operation_at};
 ghost use Rattle.acta_machine.specs.Changes.{edges_due};
 ghost use Rattle.acta_machine.specs.Reasons.{refusal_of, statuses_after, IsLack, IsSo};
 ghost use Rattle.acta_machine.specs.Rules.{full, not_in_progress, already_begun, class_may, txn_may, forms_none, is_allowed, not_in_model, partner_not_in_progress, is_of_another, not_held, not_responsible, wants_whole, left_out, partial_delegation, unknown_in, bad_set, refuses_conflicts, conflict, too_late, form_too_late, edges_full, broken_before_conflict, broken_before_edges, dependency, no_heir, lowest_broken};
+ghost use Rattle.acta_machine.specs.inside.Remembered.{IsRemembered};
 ghost use Rattle.acta_machine.specs.inside.Abstraction.{abstraction};
 ghost use Rattle.acta_machine.specs.inside.Broken.{rule_of, IsBroken};
 
@@ -350,6 +351,7 @@ impl<A: Handle> MachineState<A> {
 
     #[tactic(auto, unfolding(crate::specs::Rules::conflict))]
     fn conflict(&self, event: &Event<A>) -> Result<Option<Reason>, AllocError>
+        requires { IsRemembered self.now.store.lineage (abstraction self.now) }
         ensures refusal { IfOk result (λ reason. option_map refusal_of reason ≡ conflict self.now.model (abstraction self.now) event.now) }
         ensures so { IfOk result (λ reason. IfSome reason (IsSo self.now.model (abstraction self.now) event.now)) }
     {
@@ -466,6 +468,7 @@ impl<A: Handle> MachineState<A> {
 
     /// The reason for the lowest broken rule before EdgesFull.
     pub(crate) fn broken_before_edges(&self, event: &Event<A>) -> Result<Option<Reason>, AllocError>
+        requires { IsRemembered self.now.store.lineage (abstraction self.now) }
         ensures refusal { IfOk result (λ reason. option_map refusal_of reason ≡ broken_before_edges self.now.model (abstraction self.now) event.now) }
         ensures so { IfOk result (λ reason. IfSome reason (IsSo self.now.model (abstraction self.now) event.now)) }
     {
@@ -563,6 +566,7 @@ impl<A: Handle> MachineState<A> {
         &self,
         event: &Event<A>,
     ) -> Result<Result<Vec<Edge, A>, Broken>, AllocError>
+        requires { IsRemembered self.now.store.lineage (abstraction self.now) }
         ensures refusal { IfOk result (λ outcome. IfErr outcome (λ broken. lowest_broken self.now.model (abstraction self.now) event.now ≡ Some (rule_of broken))) }
         ensures so { IfOk result (λ outcome. IfErr outcome (IsBroken self.now.model (abstraction self.now) event.now)) }
         ensures none { IfOk result (λ outcome. IfOk outcome (λ _. lowest_broken self.now.model (abstraction self.now) event.now ≡ None)) }
@@ -593,6 +597,7 @@ impl<A: Handle> MachineState<A> {
 
     /// Why the event is refused, or `None` if it breaks no rule.
     pub(crate) fn why(&self, event: &Event<A>) -> Result<Option<Reason>, AllocError>
+        requires { IsRemembered self.now.store.lineage (abstraction self.now) }
         ensures refusal { IfOk result (λ reason. option_map refusal_of reason ≡ lowest_broken self.now.model (abstraction self.now) event.now) }
         ensures so { IfOk result (λ reason. IfSome reason (IsSo self.now.model (abstraction self.now) event.now)) }
     {

@@ -12,3 +12,6 @@ mod Grants
 mod Permitting
 mod PermitLists
 mod Partners
+pub mod Lineages
+pub mod Chaining
+mod Clearing

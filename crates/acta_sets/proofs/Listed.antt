@@ -220,7 +220,7 @@ pub against_open : (t : ℕ) (exempt : List ℕ) (ob : ℕ) (op : Op) (i : HeldO
 against_open t exempt ob op i e = open_step (is_open i.fate) (not (i.holder.0 == t)) (not (list_any (λ k. k == i.holder.0) exempt)) (i.ob.0 == ob) (ops_conflict i.op op) e
 
 -- one more operation
-numbers_from-append : (test : HeldOp → Bool) (n : ℕ) (items : List HeldOp) (i : HeldOp)
+pub numbers_from-append : (test : HeldOp → Bool) (n : ℕ) (items : List HeldOp) (i : HeldOp)
     → numbers_from test n (items ++ i ∷ []) ≡ numbers_from test n items ++ (if test i then (n + length items) ∷ [] else [])
 numbers_from-append test n [] i = grind (arith, common_steps)
 numbers_from-append test n (j ∷ items) i = let later = numbers_from-append test (n + 1) items i in grind (arith, common_steps, later)
@@ -233,13 +233,13 @@ AreListed-more mode items m n i number at is after q =
     grind (arith, common_steps, more, here, now, at)
 
 -- the mode of an operation does not change when it ends or is transferred
-numbers-mapped : (test : HeldOp → Bool) (f : HeldOp → HeldOp) (n : ℕ) (items : List HeldOp) → ((i : HeldOp) → test (f i) ≡ test i) → numbers_from test n (map f items) ≡ numbers_from test n items
+pub numbers-mapped : (test : HeldOp → Bool) (f : HeldOp → HeldOp) (n : ℕ) (items : List HeldOp) → ((i : HeldOp) → test (f i) ≡ test i) → numbers_from test n (map f items) ≡ numbers_from test n items
 numbers-mapped test f n [] e = refl
 numbers-mapped test f n (i ∷ items) e =
     ap (λ b. if b then n ∷ numbers_from test (n + 1) (map f items) else numbers_from test (n + 1) (map f items)) (e i)
     ∙ ap (λ l. if test i then n ∷ l else l) (numbers-mapped test f (n + 1) items e)
 
-belongs_if : (mode : Op → Option LockMode) (q : ModeKey) (b : Bool) (x i : HeldOp) → belongs mode q x ≡ belongs mode q i → belongs mode q (if b then x else i) ≡ belongs mode q i
+pub belongs_if : (mode : Op → Option LockMode) (q : ModeKey) (b : Bool) (x i : HeldOp) → belongs mode q x ≡ belongs mode q i → belongs mode q (if b then x else i) ≡ belongs mode q i
 belongs_if mode q true x i e = e
 belongs_if mode q false x i e = refl
 
@@ -278,21 +278,31 @@ ended_if : (b : Bool) (x i : HeldOp) → (has_ended i ≡ true → has_ended x �
 ended_if true x i from e = from e
 ended_if false x i from e = e
 
-mapped_at : (f : HeldOp → HeldOp) (items : List HeldOp) (k : ℕ) → ((i : HeldOp) → has_ended i ≡ true → has_ended (f i) ≡ true)
-    → option_map_or has_ended (slice_get items k) false ≡ true → option_map_or has_ended (slice_get (map f items) k) false ≡ true
-mapped_at f [] k from e = e
-mapped_at f (i ∷ items) zero from e = from i e
-mapped_at f (i ∷ items) (suc k) from e = mapped_at f items k from e
+-- what holds of an operation still holds after it is changed, and after one more is added
+mapped_at : (P : HeldOp → Bool) (f : HeldOp → HeldOp) (items : List HeldOp) (k : ℕ) → ((i : HeldOp) → P i ≡ true → P (f i) ≡ true)
+    → option_map_or P (slice_get items k) false ≡ true → option_map_or P (slice_get (map f items) k) false ≡ true
+mapped_at P f [] k from e = e
+mapped_at P f (i ∷ items) zero from e = from i e
+mapped_at P f (i ∷ items) (suc k) from e = mapped_at P f items k from e
 
-mapped_opens : (f : HeldOp → HeldOp) (items : List HeldOp) → ((i : HeldOp) → has_ended i ≡ true → has_ended (f i) ≡ true) → NoneReopens items (map f items)
-mapped_opens f items from zero e = e
-mapped_opens f items from (suc k) e = mapped_at f items k from e
+pub passes-mapped : (P : HeldOp → Bool) (f : HeldOp → HeldOp) (items : List HeldOp) → ((i : HeldOp) → P i ≡ true → P (f i) ≡ true) → (n : ℕ) → passes_at P items n ≡ true → passes_at P (map f items) n ≡ true
+passes-mapped P f items from zero e = e
+passes-mapped P f items from (suc k) e = mapped_at P f items k from e
+
+appended_at : (P : HeldOp → Bool) (items : List HeldOp) (x : HeldOp) (k : ℕ) → option_map_or P (slice_get items k) false ≡ true → option_map_or P (slice_get (items ++ x ∷ []) k) false ≡ true
+appended_at P [] x k e = cc
+appended_at P (i ∷ items) x zero e = e
+appended_at P (i ∷ items) x (suc k) e = appended_at P items x k e
+
+pub passes-appended : (P : HeldOp → Bool) (items : List HeldOp) (x : HeldOp) (n : ℕ) → passes_at P items n ≡ true → passes_at P (items ++ x ∷ []) n ≡ true
+passes-appended P items x zero e = e
+passes-appended P items x (suc k) e = appended_at P items x k e
 
 pub NoneReopens-ended : (t : ℕ) (fate : Fate) (items : List HeldOp) → is_open fate ≡ false → NoneReopens items (ended t fate items)
-NoneReopens-ended t fate items closed = mapped_opens (ended_op t fate) items (λ i e. ended_if (is_held t i) (record i { fate = fate }) i (λ _. ap not closed) e)
+NoneReopens-ended t fate items closed = passes-mapped has_ended (ended_op t fate) items (λ i e. ended_if (is_held t i) (record i { fate = fate }) i (λ _. ap not closed) e)
 
 pub NoneReopens-transferred : (t : ℕ) (u : TxnId) (items : List HeldOp) → NoneReopens items (transferred t u items)
-NoneReopens-transferred t u items = mapped_opens (transferred_op t u) items (λ i e. ended_if (is_held t i) (record i { holder = u }) i (λ x. x) e)
+NoneReopens-transferred t u items = passes-mapped has_ended (transferred_op t u) items (λ i e. ended_if (is_held t i) (record i { holder = u }) i (λ x. x) e)
 
 transferred_at : (t : ℕ) (ops : List OpNo) (u : TxnId) (n : ℕ) (items : List HeldOp) (k : ℕ) → option_map_or has_ended (slice_get items k) false ≡ true → option_map_or has_ended (slice_get (transferred_from n t ops u items) k) false ≡ true
 transferred_at t ops u n [] k e = e
@@ -302,15 +312,6 @@ transferred_at t ops u n (i ∷ items) (suc k) e = transferred_at t ops u (n + 1
 pub NoneReopens-transferred_of : (t : ℕ) (ops : List OpNo) (u : TxnId) (items : List HeldOp) → NoneReopens items (transferred_of t ops u items)
 NoneReopens-transferred_of t ops u items zero e = e
 NoneReopens-transferred_of t ops u items (suc k) e = transferred_at t ops u 1 items k e
-
-appended_at : (items : List HeldOp) (x : HeldOp) (k : ℕ) → option_map_or has_ended (slice_get items k) false ≡ true → option_map_or has_ended (slice_get (items ++ x ∷ []) k) false ≡ true
-appended_at [] x k e = cc
-appended_at (i ∷ items) x zero e = e
-appended_at (i ∷ items) x (suc k) e = appended_at items x k e
-
-NoneReopens-added : (items : List HeldOp) (x : HeldOp) → NoneReopens items (items ++ x ∷ [])
-NoneReopens-added items x zero e = e
-NoneReopens-added items x (suc k) e = appended_at items x k e
 
 -- one more number at the end of a list
 longer : (items : List HeldOp) (ns : List ℕ) (n front : ℕ) → HaveEnded items ns front → HaveEnded items (ns ++ n ∷ []) front
@@ -324,7 +325,7 @@ longer_if items false ns n front is = is
 pub FrontsHold-added : {A : Type 0} (mode : Op → Option LockMode) (items : List HeldOp) (m n : ModeKey → Option (ModeList A)) (x : HeldOp) (number : ℕ) → FrontsHold items m
     → ((q : ModeKey) → numbers_in n q ≡ (if belongs mode q x then numbers_in m q ++ number ∷ [] else numbers_in m q)) → ((q : ModeKey) → front_in n q ≡ front_in m q) → FrontsHold (items ++ x ∷ []) n
 FrontsHold-added mode items m n x number hold after same q =
-    let was = FrontsHold-after items (items ++ x ∷ []) m (NoneReopens-added items x) hold q in
+    let was = FrontsHold-after items (items ++ x ∷ []) m (passes-appended has_ended items x) hold q in
     HaveEnded-same (items ++ x ∷ []) (if belongs mode q x then numbers_in m q ++ number ∷ [] else numbers_in m q) (numbers_in n q) (front_in m q) (front_in n q) (sym (after q)) (sym (same q))
     (longer_if (items ++ x ∷ []) (belongs mode q x) (numbers_in m q) number (front_in m q) was)
 

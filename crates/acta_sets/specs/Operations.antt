@@ -116,6 +116,11 @@ abbrev pub is_against : ℕ → List ℕ → ℕ → Op → HeldOp → Bool
 is_against t exempt ob op i =
     is_open i.fate && not (i.holder.0 == t) && not (list_any (λ k. k == i.holder.0) exempt) && (i.ob.0 == ob) && ops_conflict i.op op
 
+-- the same for any test of who is exempt
+abbrev pub is_against_but : ℕ → (ℕ → Bool) → ℕ → Op → HeldOp → Bool
+is_against_but t exempt ob op i =
+    is_open i.fate && not (i.holder.0 == t) && not (exempt i.holder.0) && (i.ob.0 == ob) && ops_conflict i.op op
+
 -- whether u is not t, is not exempt, and holds an operation in progress on this object that conflicts with `op`
 abbrev pub is_conflicting_holder : ℕ → List ℕ → ℕ → Op → List HeldOp → ℕ → Bool
 is_conflicting_holder t exempt ob op items u =

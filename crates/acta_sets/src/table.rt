@@ -5,6 +5,9 @@ ghost use Rattle.std.specs.List.{list_any};
 ghost use Rattle.acta_table.specs.Numbered.{first_number, numbers_where};
 ghost use Rattle.acta_table.specs.Sets.{is_named};
 ghost use Rattle.acta_sets.specs.Permits.{permitted};
+ghost use Rattle.acta_sets.specs.declared.mode.Holder.TheVariants.{Anyone};
+ghost use Rattle.acta_sets.specs.inside.Listing.{belongs};
+ghost use Rattle.acta_sets.specs.inside.Modes as modes;
 
 use crate::changing::{advance_each, end_each, transfer_each};
 use crate::coarse_lists::CoarseLists;
@@ -16,7 +19,7 @@ use crate::held::{
 };
 use crate::held_op::HeldOp;
 use crate::listing::ModeLists;
-use crate::mode::{Holder, coarse, listed_fine};
+use crate::mode::{Holder, LockMode, coarse, coarse_place, listed_fine};
 use crate::permits::Permits;
 use crate::selection::{Selection, selected};
 use crate::{coarse_lists, counts, held, listing};
@@ -284,6 +287,21 @@ impl<A: Handle> OpTable<A> {
 }
 
 impl<A: Handle> OpTable<A> {
+    /// The operations in this coarse mode on the object, by number, ascending, whatever their fate.
+    pub(crate) fn in_mode(&self, ob: u16, mode: LockMode) -> &[u32]
+        ensures { result.now ≡ numbers_where (belongs modes.coarse (record { holder = Anyone; ob = ob; mode = mode })) self.now }
+    {
+        let lists = &self.coarse;
+        let Some(place) = coarse_place(ob, mode) else {
+            return &[];
+        };
+        if place < lists.len() {
+            lists[place].numbers.as_slice()
+        } else {
+            &[]
+        }
+    }
+
     // The allocator of the list.
     fn allocator(&self) -> A {
         *self.items.allocator()

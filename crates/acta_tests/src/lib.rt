@@ -25,6 +25,8 @@ mod heaps;
 #[cfg(test)]
 mod judging;
 #[cfg(test)]
+mod lines;
+#[cfg(test)]
 mod models;
 #[cfg(test)]
 mod objects;

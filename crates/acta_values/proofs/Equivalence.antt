@@ -1,6 +1,6 @@
 -- Commits and transfers do not change values.
 use Rattle.std.proofs.Common.{◌≡◌, ℕ, ◌+◌, ◌==◌, Bool, true, false, not, ◌&&◌, cond, List, [], ◌∷◌, length, Some, None, refl, sym, ap, subst, arith}
-use Rattle.std.specs.Prelude.{option_map, Result, Ok, Err, OnOk, OnErr}
+use Rattle.std.specs.Prelude.{option_map}
 use Rattle.std.specs.List.{cons_option}
 use Rattle.std.proofs.lemmas.Bool.{and_parts}
 use Rattle.acta_table.specs.declared.answer.Fate.{Fate}
@@ -97,8 +97,3 @@ pub is_committed-closed : (f : Fate) → is_open f ≡ false → (f ≡ Aborted 
 is_committed-closed InProgress closed other = cc
 is_committed-closed Committed closed other = refl
 is_committed-closed Aborted closed other = absurd (other refl)
-
--- the values are right whether a transfer succeeds or changes nothing
-pub transferred_or_not : {A X E : Type 0} (kinds : List Kind) (old new transferred : List HeldOp) (values : List (LiveValue A)) (r : Result X E) → OnOk r (new ≡ transferred) → OnErr r (new ≡ old) → AreAfter kinds transferred values → AreAfter kinds old values → AreAfter kinds new values
-transferred_or_not kinds old new transferred values (Ok x) ok err moved stays = subst (λ (items : List HeldOp). AreAfter kinds items values) (sym ok) moved
-transferred_or_not kinds old new transferred values (Err e) ok err moved stays = subst (λ (items : List HeldOp). AreAfter kinds items values) (sym err) stays

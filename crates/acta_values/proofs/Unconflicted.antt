@@ -6,8 +6,7 @@ use Rattle.acta_table.specs.declared.event.Op.{Op}
 use Rattle.acta_table.specs.Fates.{is_open}
 use Rattle.acta_table.specs.Numbered.{first_number, ascending}
 use Rattle.acta_sets.specs.declared.held_op.HeldOp.{HeldOp}
-use Rattle.acta_sets.specs.Operations.{is_against, ops_conflict}
-use Rattle.acta_values.specs.Conflicts.{is_against_but}
+use Rattle.acta_sets.specs.Operations.{is_against, is_against_but, ops_conflict}
 
 fewer-by : (a s o c : Bool) → (a && not false && o && c) ≡ false → (a && not s && o && c) ≡ false
 fewer-by true true o c none = refl
@@ -35,6 +34,10 @@ no-first p n [] none = refl
 no-first p n (i ∷ items) none =
     let parts = or_parts (p i) (list_any p items) none in
     no-first p (n + 1) items parts.1 ∙ ap (λ b. cond b (Some n) (position_from p (n + 1) items)) (sym parts.0)
+
+pub none_if : (w b : Bool) → b ≡ false → (w && b) ≡ false
+none_if true b none = none
+none_if false b none = refl
 
 -- then there is no first conflicting operation
 pub first-unconflicted : (w : Bool) (p : HeldOp → Bool) (items : List HeldOp) → (w && list_any p items) ≡ false → None ≡ (if w then first_number p items else None)

@@ -8,6 +8,7 @@ use Rattle.acta_table.specs.declared.limits.TheConstants.{MOST_EVENTS}
 use Rattle.acta_table.specs.declared.model.Kind.{Kind}
 use Rattle.acta_table.specs.declared.model.Object.{Object}
 use Rattle.acta_sets.specs.declared.held_op.HeldOp.{HeldOp}
+use Rattle.acta_sets.specs.Chains.{Chained, AreChained}
 use Rattle.acta_sets.specs.Operations.{added, is_live}
 use Rattle.acta_values.specs.declared.live_value.LiveValue.{LiveValue}
 use Rattle.acta_values.specs.declared.trail.Numbered.{Numbered}
@@ -41,6 +42,11 @@ pub record AreAfter {A : Type 0} (kinds : List Kind) (items : List HeldOp) (valu
   pub long : length values ≡ length kinds
   pub few : length items ≤ MOST_EVENTS
   pub each : (k : ℕ) (kind : Kind) (value : LiveValue A) → slice_get kinds k ≡ Some kind → slice_get values k ≡ Some value → IsAfter kind (numbered_live items k) value
+
+-- the values are those after the operations, and the marks are right
+pub record IsInOrder {A : Type 0} (kinds : List Kind) (items : List HeldOp) (values : List (LiveValue A)) (chains : Chained) : Type 0 where
+  pub after : AreAfter kinds items values
+  pub chained : AreChained items chains
 
 -- the values are those after these operations, for objects of some kinds
 pub record AreValues {A : Type 0} (items : List HeldOp) (values : List (LiveValue A)) : Type 0 where

@@ -3,8 +3,8 @@
 ghost use Rattle.std.specs.Prelude.{◌≡◌, ℕ, Bool, false, ◌&&◌, [], None, IfOk, if◌then◌else◌};
 ghost use Rattle.std.specs.List.{list_any};
 ghost use Rattle.acta_table.specs.Numbered.{first_number};
-ghost use Rattle.acta_sets.specs.Operations.{is_against, holders_against};
-ghost use Rattle.acta_values.specs.Conflicts.{is_against_but, is_well_formed};
+ghost use Rattle.acta_sets.specs.Operations.{is_against, is_against_but, holders_against};
+ghost use Rattle.acta_values.specs.Conflicts.{is_well_formed};
 
 use acta_objects::is_of_kind;
 use acta_sets::{Handle, OpTable};

@@ -1,5 +1,5 @@
 -- The data that a walk keeps, and the searches in it.
-use Rattle.std.specs.Prelude.{ℕ, ◌≡◌, ◌≤◌, ◌<◌, Bool, ◌&&◌, not, ◌==◌, List, length, map, take, get_or, if◌then◌else◌, []}
+use Rattle.std.specs.Prelude.{ℕ, ◌≡◌, ◌≤◌, ◌<◌, Bool, ◌&&◌, not, ◌==◌, List, length, map, take, get_or, if◌then◌else◌, [], ◌⊎◌, false, Some}
 use Rattle.std.specs.List.{All, list_any}
 use Rattle.acta_table.specs.declared.dep.Edge.{Edge}
 use Rattle.acta_table.specs.declared.event.Event.{Event}
@@ -16,12 +16,13 @@ use Rattle.acta_table.specs.Numbered.{numbers_where, ascending}
 use Rattle.acta_objects.specs.Conflicts.{conflict_on}
 use Rattle.acta_sets.specs.declared.held_op.HeldOp.{HeldOp}
 use Rattle.acta_sets.specs.Permits.{Permitted, with_permit, without_permits}
+use Rattle.acta_sets.specs.Lineages.{Lineage, parent_in}
 use Rattle.acta_values.specs.KeptValues.{kinds_of}
 use Rattle.acta_values.specs.Stores.{Stored}
 use Rattle.acta_axioms.specs.declared.txn_record.TxnRecord.{TxnRecord}
 use Rattle.acta_axioms.specs.declared.seeking.Sought.{Sought}
 use Rattle.acta_axioms.specs.declared.seeking.Sought.TheVariants.{Others, Against}
-use Rattle.acta_axioms.specs.History.{has_class, has_ended, ancestors}
+use Rattle.acta_axioms.specs.History.{has_class, has_ended, ancestors, starts}
 use Rattle.acta_axioms.specs.Operations.{Standing, is_exempt, is_of_others}
 use Rattle.acta_axioms.specs.Permits.{has_permitted}
 use Rattle.acta_axioms.specs.Edges.{edges}
@@ -44,8 +45,14 @@ permits_after late e p = permits_left e p
 unfoldable pub is_left : {A : Type 0} → List (Kept A) → ℕ → ℕ → ℕ → Bool
 is_left h s t object = has_permitted h s t object && not (has_ended h s) && not (has_ended h t)
 
+-- each parent that is remembered after an event was remembered before, and the event starts another transaction, or it is
+-- the one in the table
+abbrev pub AreRemembered : {A : Type 0} → Lineage → Lineage → List TxnRecord → Event A → Type 0
+AreRemembered old new lines e =
+    (t : ℕ) (p : TxnId) → parent_in new t ≡ Some p → ((starts t e ≡ false) × (parent_in old t ≡ Some p)) ⊎ ((get_or lines t unbegun).parent ≡ Some p)
+
 -- the data agree with the definitions after the first n items: the record of each transaction, the operations on the
--- objects of the model, the edges, and the permits that can still be in force
+-- objects of the model, the edges, and the permits that can still be in force; and the parents that are remembered are right
 pub record IsKept {A : Type 0} (m : Parts A) (h : List (Kept A)) (n : ℕ)
     (lines : List TxnRecord) (store : Stored) (formed : List Edge) (permitted : Permitted) : Type 0 where
   pub within : n ≤ length h
@@ -56,6 +63,8 @@ pub record IsKept {A : Type 0} (m : Parts A) (h : List (Kept A)) (n : ℕ)
   pub items_are : store.items ≡ held_ops m (take n h)
   pub edges_are : formed ≡ edges m (take n h)
   pub permits_are : (s t object : ℕ) → permitted s t object ≡ is_left (take n h) s t object
+  pub remembered : (t : ℕ) (p : TxnId) → parent_in store.lineage t ≡ Some p → (get_or lines t unbegun).parent ≡ Some p
+  pub deep : store.lineage.most ≤ n
 
 -- the standing of the operation
 abbrev pub standing_in : HeldOp → Standing

@@ -22,6 +22,11 @@ same_mode (ChangesOf x) (ChangesOf y) = int_eq x y
 same_mode (Tests x) (Tests y) = int_eq x y
 same_mode _ _ = false
 
+-- whether the mode, if any, is this one
+abbrev pub of_mode : LockMode → Option LockMode → Bool
+of_mode c None = false
+of_mode c (Some d) = same_mode d c
+
 -- whether both are anyone, or the same transaction
 abbrev pub same_holder : Holder → Holder → Bool
 same_holder Anyone Anyone = true

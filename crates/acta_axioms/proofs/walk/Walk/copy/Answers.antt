@@ -1,5 +1,6 @@
-use Rattle.std.proofs.Common.{◌<◌, length, get_or, sym, ap, subst, ◌∙◌, All, List}
+use Rattle.std.proofs.Common.{◌<◌, length, get_or, sym, ap, arith, subst, ◌∙◌, All, List}
 use Rattle.acta_table.specs.Events.{named}
+use Rattle.acta_sets.specs.Lineages.{parent_in}
 use Rattle.acta_sets.specs.Permits.{permitted}
 use Rattle.acta_sets.specs.declared.grant.Grant.{Grant}
 use Rattle.acta_values.specs.Stores.{Stored}
@@ -21,6 +22,8 @@ invariant_of-result g c =
       lines_are = λ t. ap (λ (ls : List TxnRecord). get_or ls t unbegun) lines ∙ walk.lines_are t;
       kinds_are = ap (λ (s : Stored). s.kinds) store ∙ walk.kinds_are;
       items_are = ap (λ (s : Stored). s.items) store ∙ walk.items_are;
+      remembered = λ t p e. ap (λ (ls : List TxnRecord). (get_or ls t unbegun).parent) lines ∙ walk.remembered t p (sym (ap (λ (s : Stored). parent_in s.lineage t) store) ∙ e);
+      deep = let most = ap (λ (s : Stored). s.lineage.most) store in let deep = walk.deep in omega (arith, most, deep);
       permits_are = λ s t object. ap (λ (ps : List (List Grant)). permitted ps s t object) c.in_ok-copy-2.ensures ∙ walk.permits_are s t object;
       edges_are = same_from_all_zip _ _ _ c.in_ok-clone.ensures.cases (λ x y same. same) ∙ walk.edges_are;
     }

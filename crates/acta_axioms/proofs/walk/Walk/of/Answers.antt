@@ -1,7 +1,8 @@
-use Rattle.std.proofs.Common.{◌≡◌, ◌+◌, length, ap, arith, ◌∙◌}
+use Rattle.std.proofs.Common.{◌≡◌, ◌+◌, None, Some, length, ap, sym, arith, ◌∙◌}
 use Rattle.std.proofs.Math.ListN.{replicate}
 use Rattle.std.proofs.lemmas.List.{length-replicate}
 use Rattle.acta_values.specs.KeptValues.{kinds_of}
+use Rattle.acta_sets.specs.Lineages.{parent_in}
 use Rattle.acta_sets.specs.Permits.{Permitted}
 use Rattle.acta_values.specs.Stores.{Stored}
 use Rattle.acta_axioms.specs.inside.TxnRecords.{unbegun}
@@ -23,6 +24,8 @@ invariant_of-result g c =
       lines_are = λ t. lines-blank h lines (c.largest_named.result + 1) t blank;
       kinds_are = ap (λ (s : Stored). s.kinds) c.in_ok-new.ensures ∙ ap kinds_of c.objects.ensures.objects;
       items_are = ap (λ (s : Stored). s.items) c.in_ok-new.ensures;
+      remembered = λ t p e. let no : None ≡ Some p = sym (ap (λ (s : Stored). parent_in s.lineage t) c.in_ok-new.ensures) ∙ e in cc;
+      deep = let most = ap (λ (s : Stored). s.lineage.most) c.in_ok-new.ensures in omega (arith, most);
       permits_are = λ s t object. ap (λ (p : Permitted). p s t object) c.new-3.ensures ∙ none-left g.row.A.Denot s t object;
       edges_are = c.new-2.ensures.empty;
     }

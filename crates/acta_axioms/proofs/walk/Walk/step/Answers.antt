@@ -1,13 +1,16 @@
-use Rattle.std.proofs.Common.{subst, take, ◌≡◌, ◌<◌, ◌+◌, length, get_or, sym, ap, arith, ◌∙◌}
+use Rattle.std.proofs.Common.{List, ◌++◌, drop, subst, take, ◌≡◌, ◌<◌, ◌+◌, length, get_or, sym, ap, arith, ◌∙◌}
 use Rattle.std.specs.Prelude.{slice_get}
 use Rattle.std.specs.List.{All}
 use Rattle.std.specs.Option.{option_copied}
 use Rattle.acta_table.specs.Edges.{formed}
 use Rattle.acta_table.specs.Events.{named}
+use Rattle.acta_axioms.specs.declared.txn_record.TxnRecord.{TxnRecord}
 use Rattle.acta_axioms.specs.Edges.{formed_by}
 use Rattle.acta_axioms.specs.inside.TxnRecords.{unbegun, begun_in, ended_in, is_late, further, heir_in}
-use Rattle.acta_axioms.specs.inside.Walking.{permits_after}
+use Rattle.acta_axioms.specs.inside.Walking.{permits_after, AreRemembered, IsKept}
 use Rattle.acta_sets.specs.Permits.{permitted}
+use Rattle.acta_sets.specs.Lineages.{Lineage}
+use Rattle.acta_values.specs.Stores.{Stored}
 use Rattle.std.proofs.lemmas.List.{length-take}
 use Rattle.acta_axioms.proofs.Bringing.{few-operations}
 use Rattle.acta_axioms.proofs.Tables.{written_back}
@@ -39,13 +42,19 @@ invariant_of-self-2 g c =
     let long : length c.note.new.lines ≡ length lines = c.note.ensures.long ∙ ap length lent in
     let back = written_back c.self.inside.lines.len c.note.new.lines lines long (omega (arith, c.self.inside.lines.ok.0)) in
     let due = c.in_ok-due.ensures ∙ sym (ap (λ w. formed_by w.model w.front k.event) c.self.view_is) in
-    kept-more m h n k lines _ store c.go_on.new.store es c.go_on.new.edges.keys ps (permitted c.go_on.new.permits) c.heir_of.result next c.self.invariant
+    let rows = take c.self.inside.lines.len (c.note.new.lines ++ drop (length c.note.new.lines) lines) in
+    let lineage : c.go_on.new.store.lineage ≡ store.lineage = ap (λ (s : Stored). s.lineage) c.in_ok-go_on.ensures.brought in
+    subst (λ (s : Stored). IsKept m h (n + 1) rows s c.go_on.new.edges.keys (permitted c.go_on.new.permits)) (sym c.remember.ensures.others)
+    (kept-more m h n k lines rows store c.go_on.new.store es c.go_on.new.edges.keys ps (permitted c.go_on.new.permits) c.heir_of.result c.remember.new.store.lineage next c.self.invariant
     (c.in_ok-go_on.ensures.formed ∙ ap (formed es) (c.as_slice-3.ensures.value ∙ due))
     (c.heir_of.ensures ∙ ap (λ rows. heir_in m rows k.event) c.as_slice.ensures.value)
     c.in_ok-go_on.ensures.brought
     (c.in_ok-go_on.ensures.permitted ∙ ap (λ b. permits_after b k.event ps) (c.is_late.ensures ∙ ap (λ rows. is_late (ended_in rows) k.event) c.as_slice-2.ensures.value))
     (ap length back ∙ long)
     (λ t. ap (λ rows. get_or rows t unbegun) back ∙ c.note.ensures.further t ∙ ap (λ rows. further (n + 1) (begun_in rows) k.event t (get_or rows t unbegun)) lent)
+    (subst (λ (l : Lineage). AreRemembered l c.remember.new.store.lineage rows k.event) lineage
+    (subst (λ (found : List TxnRecord). AreRemembered c.go_on.new.store.lineage c.remember.new.store.lineage found k.event) c.as_slice-4.ensures.value c.remember.ensures.remembered))
+    (let most = c.remember.ensures.most in let same = ap (λ (l : Lineage). l.most) lineage in omega (arith, most, same)))
 
 pub returns-clause-ok : goal.returns-clause-ok
 returns-clause-ok g c =

@@ -13,6 +13,9 @@ use Rattle.acta_machine.specs.Rules.{lowest_broken}
 use Rattle.acta_machine.specs.inside.Abstraction.{abstraction}
 use Rattle.acta_machine.specs.Table.{State, kept_as}
 use Rattle.acta_machine.specs.Places.{AreHeldWell, FollowsPlaces}
+use Rattle.acta_machine.specs.inside.Remembered.{IsRemembered}
+use Rattle.acta_machine.proofs.Remembering.{remembered-after}
+use Rattle.acta_sets.specs.Lineages.{Lineage}
 use Rattle.acta_machine.specs.inside.FreshEdges.{is_fresh_edge}
 use Rattle.acta_table.specs.Edges.{formed}
 use Rattle.acta_table.specs.Events.{acting, operations_named}
@@ -136,6 +139,9 @@ invariant_of-self-2 g c =
           ∙ (λ i. counted (changed (roomy_model i) (linked ((c.make_room.ensures.shows ∙ agrees) i) (edges i)) event))
           ∙ sym ((λ i. summary_of (same_model i) (longer i)) ∙ summary_more model before kept);
       records = c.admit.ensures.records;
+      remembered = subst (λ (x : Summary). IsRemembered c.admit.new.self.store.lineage x) (sym c.in_ok-admit.ensures.shows)
+          (remembered-after c.make_room.new.self.model (abstraction c.make_room.new.self) c.args.due.now event c.make_room.new.self.store.lineage c.admit.new.self.store.lineage c.in_ok-admit.ensures.noted
+          (subst (λ (p : Lineage × Summary). IsRemembered p.0 p.1) (λ i. ((sym c.make_room.ensures.others i).store.lineage, sym c.make_room.ensures.shows i)) c.self.invariant.remembered));
       kinds = c.admit.ensures.kinds ∙ ap (λ b. b.store.kinds) c.make_room.ensures.others ∙ c.self.invariant.kinds ∙ sym (ap (λ (m : Parts g.row.A.Denot). kinds_of m.objects) same_model);
       within = omega (arith, count, room);
       follows = subst (λ (x : State g.row.A.Denot). FollowsPlaces x) (λ i. record { model = sym same_model i; kept = sym same_kept i }) (follows-push model before event faultless c.self.invariant.follows none);

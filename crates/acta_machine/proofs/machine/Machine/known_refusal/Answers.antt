@@ -1,7 +1,6 @@
-use Rattle.std.proofs.Common.{◌≡◌, Option, List, sym, subst}
+use Rattle.std.proofs.Common.{List, sym, subst}
 use Rattle.std.specs.Prelude.{IfSome}
 use Rattle.std.proofs.lemmas.Option.{IfSome_then}
-use Rattle.acta_table.specs.declared.event.Event.{Event}
 use Rattle.acta_machine.specs.Changes.{summary_of}
 use Rattle.acta_machine.specs.Summary.{Summary}
 use Rattle.acta_machine.specs.Table.{State}

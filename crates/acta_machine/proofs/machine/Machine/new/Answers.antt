@@ -4,6 +4,7 @@ use Rattle.acta_values.specs.KeptValues.{kinds_of}
 use Rattle.acta_values.specs.Stores.{Stored}
 use Rattle.acta_machine.specs.Places.{FollowsPlaces}
 use Rattle.acta_machine.proofs.Steps.{follows-fresh}
+use Rattle.acta_machine.proofs.Remembering.{none_remembered}
 use Rattle.acta_machine.proofs.Refusals.{none_refused}
 use Rattle.acta_machine.proofs.Histories.{fresh_summary}
 use Rattle.acta_machine.proofs.machine.Machine.new.Goals as goal
@@ -14,6 +15,7 @@ invariant_of-result g c =
     record {
       agrees = fresh_summary _ _ _ _ _ _ c.new-2.ensures c.new-3.ensures.items (ap (λ (s : Stored). s.items) c.in_ok-store.ensures) c.new-4.ensures c.new-5.ensures.items;
       records = let empty = ap length c.new-3.ensures.items in omega arith;
+      remembered = none_remembered _ _ (ap (λ (s : Stored). s.lineage) c.in_ok-store.ensures);
       kinds = ap (λ (s : Stored). s.kinds) c.in_ok-store.ensures ∙ ap kinds_of c.objects.ensures.objects;
       within = omega arith;
       follows = subst (λ (kept : List (Kept g.row.A.Denot)). FollowsPlaces {A = g.row.A.Denot} (record { model = c.args.model; kept = kept })) (sym c.new-5.ensures.items) (follows-fresh c.args.model);

@@ -13,6 +13,7 @@ invariant_of-self g c =
     record {
       agrees = c.self.invariant.agrees;
       records = c.self.invariant.records;
+      remembered = c.self.invariant.remembered;
       kinds = c.self.invariant.kinds;
       within = c.self.invariant.within;
       follows = c.self.invariant.follows;

@@ -2,8 +2,8 @@ use Rattle.std.proofs.Common.{List, [], ◌&&◌, if◌then◌else◌, sym, ap, 
 use Rattle.std.specs.List.{list_any}
 use Rattle.std.proofs.lemmas.Result.{IfOk-weaker}
 use Rattle.acta_sets.specs.declared.held_op.HeldOp.{HeldOp}
-use Rattle.acta_sets.specs.Operations.{holders_against}
-use Rattle.acta_values.specs.Conflicts.{is_against_but, is_well_formed}
+use Rattle.acta_sets.specs.Operations.{holders_against, is_against_but}
+use Rattle.acta_values.specs.Conflicts.{is_well_formed}
 use Rattle.acta_values.proofs.Unconflicted.{holders-unconflicted}
 use Rattle.acta_machine.specs.inside.Exempt.{is_exempt}
 use Rattle.acta_machine.specs.inside.Abstraction.{abstraction}

@@ -16,5 +16,5 @@ returns g c =
     let before = c.self.inside in
     subst (λ (s : Stored). IfOk c.value.result (is_value s.kinds s.items)) c.self.view_is
     (IfOk-weaker c.value.result (λ value. (kinds : List Kind) (items : List HeldOp) → AreAfter kinds items before.values → is_value kinds items value) (is_value before.kinds.items before.operations)
-    (λ value says. says before.kinds.items before.operations c.self.invariant)
+    (λ value says. says before.kinds.items before.operations c.self.invariant.after)
     c.value.ensures)
