@@ -1,3 +1,4 @@
+mod Differing
 mod Missing
 mod Selecting
 mod Trying

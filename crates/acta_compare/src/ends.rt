@@ -1,7 +1,9 @@
 //! The ends of programs on only one of two models, in words.
 
-ghost use Rattle.std.specs.Prelude.{◌≡◌, false, IfOk};
-ghost use Rattle.acta_explore.specs.Ends.{AreAllEnds};
+ghost use Rattle.std.specs.Prelude.{length, IfOk};
+ghost use Rattle.std.specs.Io.{StartsWith};
+ghost use Rattle.acta_io.specs.inside.Reports.{output_of};
+ghost use Rattle.acta_compare.specs.Answers.{IsOfOutcomes, first_words};
 ghost use Rattle.acta_compare.specs.OnlyIn.{HasOutcomes};
 
 use crate::only::only_in;
@@ -9,10 +11,11 @@ use crate::side::Side;
 use acta_explore::{Explored, Plan};
 use acta_io::{NonBlankLine, Report, non_blank_lines, numbers_of_lines};
 use acta_machine::Handle;
-use acta_programs::{Programs, put_count, put_end};
+use acta_programs::{EndCount, Programs, begun, put_end};
 use acta_prose::{Prose, put, put_model_name};
 use acta_script::ProgramLine;
 use std::alloc::AllocError;
+use std::fmt;
 
 /// The ends of programs on a model.
 #[derive(Drop)]
@@ -22,7 +25,7 @@ pub(crate) struct Ends<'a, A: Handle> {
     pub(crate) explored: &'a Explored<A>,
 }
 
-// Adds the ends at these places, under the name of their model.
+// Adds the name of a model, and its ends at these places.
 fn put_only<A: Handle>(
     prose: Prose<A>,
     alloc: A,
@@ -40,7 +43,6 @@ fn put_only<A: Handle>(
         texts,
         plan: &plan,
     };
-    let prose = put_count(prose, places.len()).put(" only under ");
     let prose = put_model_name(prose, ends.side.name);
     let mut prose = put!(prose; " (of ", ends.explored.len(), ", every order tried)\n");
     for place in places {
@@ -49,38 +51,71 @@ fn put_only<A: Handle>(
     Ok(prose)
 }
 
-// The ends on only one of the models.
+// The ends at these places, of which the first ones are only on the first model, and the others only on the second. What
+// comes before the name of the first model is left out.
+fn only_text<A: Handle>(
+    alloc: A,
+    one: &Ends<'_, A>,
+    other: &Ends<'_, A>,
+    input: &[u8],
+    ours: &[usize],
+    theirs: &[usize],
+) -> Result<String<A>, AllocError> {
+    let numbers = numbers_of_lines(alloc, input)?;
+    let texts = non_blank_lines(alloc, input)?;
+    let (numbers, texts) = (numbers.as_slice(), texts.as_slice());
+    let prose = put_only(Prose::new(alloc), alloc, one, numbers, texts, ours)?;
+    let prose = put!(prose; "\n", EndCount(theirs.len()), " only under ");
+    put_only(prose, alloc, other, numbers, texts, theirs)?.done()
+}
+
+// The first words, by how many ends there are on the first model, only on the first, and only on the second.
+#[derive(Clone, Copy)]
+struct FirstWords {
+    count: usize,
+    ours: usize,
+    theirs: usize,
+}
+
+impl fmt::Display for FirstWords {
+    ghost use Rattle.std.specs.Prelude.{Some};
+    ghost use Rattle.acta_compare.specs.Answers.{first_words};
+
+    ghost output = { λ these. Some (first_words these.count these.ours these.theirs) };
+
+    fn fmt<W: fmt::Write>(&self, f: &mut fmt::Formatter<W>) -> fmt::Result {
+        if self.ours == 0 && self.theirs == 0 {
+            write!(f, "{}, the same under both models", EndCount(self.count))
+        } else {
+            write!(f, "{} only under ", EndCount(self.ours))
+        }
+    }
+}
+
+// The ends on only one of the models, by their places.
 fn ends_text<A: Handle>(
     alloc: A,
     one: &Ends<'_, A>,
     other: &Ends<'_, A>,
     input: &[u8],
-) -> Result<String<A>, AllocError>
-    requires one { HasOutcomes one.now.explored.now }
-    requires other { HasOutcomes other.now.explored.now }
+    ours: &[usize],
+    theirs: &[usize],
+) -> Result<Vec<u8, A>, AllocError>
+    ensures { IfOk result (λ text. StartsWith text.items (first_words (length one.now.explored.now.ends) (length ours.now) (length theirs.now))) }
 {
-    let ours = only_in(alloc, one.explored, other.explored)?;
-    let theirs = only_in(alloc, other.explored, one.explored)?;
-    let prose = Prose::new(alloc);
+    let first_words = FirstWords {
+        count: one.explored.len(),
+        ours: ours.len(),
+        theirs: theirs.len(),
+    };
+    let head = format!(in alloc; "{first_words}")?.into_bytes();
     if ours.is_empty() && theirs.is_empty() {
-        let prose = put_count(prose, one.explored.len());
-        return prose
-            .put(", the same under both models, every order tried\n")
-            .done();
+        return begun(head, ", every order tried\n");
     }
-    let numbers = numbers_of_lines(alloc, input)?;
-    let texts = non_blank_lines(alloc, input)?;
-    let (numbers, texts) = (numbers.as_slice(), texts.as_slice());
-    let prose = put_only(prose, alloc, one, numbers, texts, ours.as_slice())?;
-    put_only(
-        prose.put("\n"),
-        alloc,
-        other,
-        numbers,
-        texts,
-        theirs.as_slice(),
-    )?
-    .done()
+    match only_text(alloc, one, other, input, ours, theirs) {
+        Ok(rest) => begun(head, rest.as_str()),
+        Err(e) => Err(e),
+    }
 }
 
 /// The ends on only one of the models, in words.
@@ -90,14 +125,15 @@ pub(crate) fn explain_only<A: Handle>(
     other: &Ends<'_, A>,
     input: &[u8],
 ) -> Result<Report<A>, AllocError>
-    requires all { AreAllEnds one.now.lines.now one.now.side.now.model.now one.now.explored.now.ends }
-    requires others { AreAllEnds other.now.lines.now other.now.side.now.model.now other.now.explored.now.ends }
     requires one { HasOutcomes one.now.explored.now }
     requires other { HasOutcomes other.now.explored.now }
-    ensures { IfOk result (λ report. report.is_refused ≡ false) }
+    ensures { IfOk result (λ report. IsOfOutcomes one.now.explored.now.outcomes other.now.explored.now.outcomes (output_of report)) }
 {
+    let ours = only_in(alloc, one.explored, other.explored)?;
+    let theirs = only_in(alloc, other.explored, one.explored)?;
+    let text = ends_text(alloc, one, other, input, ours.as_slice(), theirs.as_slice())?;
     Ok(Report {
-        text: ends_text(alloc, one, other, input)?.into_bytes(),
+        text,
         is_refused: false,
     })
 }

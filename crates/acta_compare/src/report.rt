@@ -1,14 +1,14 @@
 //! The report for the bytes of two models and of an input.
 
-ghost use Rattle.std.specs.Prelude.{◌≡◌, ◌≤◌, ◌+◌, true, ◌||◌, is_some, IfOk, IfSome, false};
+ghost use Rattle.std.specs.Prelude.{◌≡◌, ◌≤◌, ◌+◌, true, ◌||◌, is_some, map, IfOk, IfSome};
 ghost use Rattle.acta_io.specs.Outcome.{AnswersBy, FailsBy, IsUnreadTooLong, KeepsUnread, WritesBy, reason_of};
 ghost use Rattle.acta_io.specs.Input.{parsed_in};
 ghost use Rattle.acta_io.specs.inside.Reports.{output_of};
 ghost use Rattle.acta_script.specs.Reading.{program_line_of};
 ghost use Rattle.acta_explore.specs.Ends.{AreAllEnds};
-ghost use Rattle.acta_compare.specs.Answers.{IsAnswer, IsAnswerOn, IsAnswerUnless, IsAnswerWith, longer};
+ghost use Rattle.acta_explore.specs.Outcomes.{outcome};
+ghost use Rattle.acta_compare.specs.Answers.{IsAnswer, IsAnswerOn, IsAnswerTo, IsAnswerWith, IsOfPrograms, longer};
 ghost use Rattle.acta_io.specs.Models.{of_either};
-ghost use Rattle.acta_compare.specs.OnlyIn.{HasOutcomes};
 
 use crate::answers::explain_answers;
 use crate::args::{Asked, Compared};
@@ -133,7 +133,8 @@ fn compare_found<A: Handle, W: Watch>(
     watch: &mut W,
 ) -> Result<Report<A>, AllocError>
     requires all { AreAllEnds one.now.lines.now one.now.side.now.model.now one.now.explored.now.ends }
-    requires outcomes { HasOutcomes one.now.explored.now }
+    requires outcomes { one.now.explored.now.outcomes ≡ map (outcome one.now.lines.now) one.now.explored.now.ends }
+    ensures { IfOk result (λ report. IsOfPrograms most one.now.side.now.model.now one.now.lines.now other.now.model.now lines.now (output_of report)) }
 {
     let found = explore(alloc, other.model, lines, most, watch);
     watch.end();
@@ -163,7 +164,9 @@ fn compare_programs<A: Handle, W: Watch>(
     lines: &[ProgramLine<A>],
     others: &[ProgramLine<A>],
     watch: &mut W,
-) -> Result<Report<A>, AllocError> {
+) -> Result<Report<A>, AllocError>
+    ensures { IfOk result (λ report. IsOfPrograms most one.now.model.now lines.now other.now.model.now others.now (output_of report)) }
+{
     let found = explore(alloc, one.model, lines, most, watch);
     watch.end();
     match found {
@@ -191,7 +194,7 @@ fn compare_ends<A: Handle, W: Watch>(
     input: &[u8],
     watch: &mut W,
 ) -> Result<Report<A>, AllocError>
-    ensures { IfOk result (λ report. IsAnswerUnless (parsed_in (program_line_of one.now.model.now 16) input.now).stop (parsed_in (program_line_of other.now.model.now 16) input.now).stop (output_of report)) }
+    ensures { IfOk result (λ report. IsAnswerTo most one.now.model.now other.now.model.now (parsed_in (program_line_of one.now.model.now 16) input.now) (parsed_in (program_line_of other.now.model.now 16) input.now) (output_of report)) }
 {
     let reader = ProgramLines {
         alloc,

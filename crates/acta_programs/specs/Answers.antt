@@ -1,5 +1,7 @@
 -- The output of `explore` for programs.
-use Rattle.std.specs.Prelude.{◌≡◌, ◌⊎◌, ⊤, ℕ, Bool, true, false, List, [], ◌∷◌, map, length, codes, decimal, Option, Some, None, Result, Ok, Err}
+use Rattle.std.specs.Prelude.{◌≡◌, ◌⊎◌, ◌++◌, ⊤, ℕ, Bool, true, false, List, [], ◌∷◌, map, filter, length, codes, decimal, Option, Some, None, Result, Ok, Err}
+use Rattle.std.specs.Io.{StartsWith}
+use Rattle.std.specs.List.{range_with_len}
 use Rattle.acta_table.specs.declared.event.Kept.{Kept}
 use Rattle.acta_table.specs.declared.model.Parts.{Parts}
 use Rattle.acta_table.specs.Numbered.{item_at}
@@ -13,27 +15,35 @@ use Rattle.acta_io.specs.Models.{of_either}
 use Rattle.acta_io.specs.Reports.{Output, refused_by, refused_model, stop_line}
 use Rattle.acta_io.specs.Input.{Parsed, line_numbers, parsed_in}
 use Rattle.acta_explore.specs.Ends.{AreAllEnds, IsTooMany}
+use Rattle.acta_explore.specs.Outcomes.{outcome}
 use Rattle.acta_explore.specs.Points.{Point, start}
 use Rattle.acta_explore.specs.Programs.{Programs}
 use Rattle.acta_ends.specs.declared.condition.Condition.{Condition}
+use Rattle.acta_ends.specs.Conditions.{holds_at}
 use Rattle.acta_ends.specs.EndLines.{explored_lines}
 use Rattle.acta_programs.specs.declared.args.Form.{Form}
 use Rattle.acta_programs.specs.declared.args.Form.TheVariants.{Words, Lines, Events}
+use Rattle.acta_programs.specs.From.{ends_line}
 
 -- incomplete POINTS ENDS: the numbers found before the search was given up
 abbrev pub incomplete_line : ℕ → ℕ → List ℕ
 incomplete_line points ends = line_of (codes "incomplete" ∷ decimal points ∷ decimal ends ∷ [])
 
+-- the same in words: more than so many points
+abbrev pub incomplete_words : ℕ → ℕ → ℕ → List ℕ
+incomplete_words most points ends =
+    codes "incomplete: more than " ++ (decimal most ++ (codes " points (--most): " ++ (decimal points ++ (codes " points and " ++ (decimal ends ++ codes " ends were found. There may be other ends.\n")))))
+
 -- the output after so many points and ends were found: words for a reader, otherwise this line
-abbrev pub TellsIncomplete : Form → ℕ → ℕ → Output → Type 0
-TellsIncomplete Words points ends out = out.is_refused ≡ true
-TellsIncomplete Lines points ends out = out ≡ refused_by (incomplete_line points ends)
-TellsIncomplete (Events number) points ends out = out ≡ refused_by (incomplete_line points ends)
+abbrev pub TellsIncomplete : Form → ℕ → ℕ → ℕ → Output → Type 0
+TellsIncomplete Words most points ends out = out ≡ record { is_refused = true; text = incomplete_words most points ends }
+TellsIncomplete Lines most points ends out = out ≡ refused_by (incomplete_line points ends)
+TellsIncomplete (Events number) most points ends out = out ≡ refused_by (incomplete_line points ends)
 
 -- the search was given up: it found so many points, more than allowed, and so many ends
 abbrev pub IsIncomplete : {A : Type 0} → Form → ℕ → Parts A → Programs A → Output → Type 0
 IsIncomplete form most m programs out =
-    (points : ℕ) × (ends : ℕ) × IsTooMany programs (start m) most points ends × TellsIncomplete form points ends out
+    (points : ℕ) × (ends : ℕ) × IsTooMany programs (start m) most points ends × TellsIncomplete form most points ends out
 
 -- the line of a kept event, without its return
 abbrev pub kept_event_line : {A : Type 0} → Parts A → Kept A → List ℕ
@@ -53,10 +63,19 @@ abbrev pub end_events : {A : Type 0} → ℕ → ℕ → Option (Point A) → Ou
 end_events number count (Some p) = record { is_refused = false; text = text_of (order_events p) }
 end_events number count None = refused_by (no_end_line number count)
 
+-- how many of the ends there are for which the condition holds
+abbrev pub kept_count : {A : Type 0} → Programs A → Condition A → List (Point A) → ℕ
+kept_count programs c ends =
+    length (filter (holds_at c (map (outcome programs) ends)) (range_with_len 0 (length ends)))
+
+-- the output in words on so many ends, with which it begins
+abbrev pub IsInWords : ℕ → Output → Type 0
+IsInWords count out = StartsWith out.text (ends_line count) × (out.is_refused ≡ false)
+
 -- the output for the ends: words for a reader, or lines of those for which the condition holds, or the events of the end
 -- with this number
 abbrev pub IsOfEnds : {A : Type 0} → Form → Parts A → Programs A → List ℕ → Condition A → List (Point A) → Output → Type 0
-IsOfEnds Words m programs numbers c ends out = out.is_refused ≡ false
+IsOfEnds Words m programs numbers c ends out = IsInWords (kept_count programs c ends) out
 IsOfEnds Lines m programs numbers c ends out =
     out ≡ record { is_refused = false; text = text_of (explored_lines m programs numbers c ends) }
 IsOfEnds (Events number) m programs numbers c ends out =

@@ -1,8 +1,12 @@
 //! The ways in which programs can end, in words.
 
-ghost use Rattle.std.specs.Prelude.{◌≡◌, false, true, IfOk};
+ghost use Rattle.std.specs.Prelude.{◌≡◌, true, length, IfOk};
+ghost use Rattle.acta_ends.specs.Conditions.{kept_places};
+ghost use Rattle.acta_io.specs.inside.Reports.{output_of};
+ghost use Rattle.acta_programs.specs.Answers.{IsInWords, incomplete_words};
 
 use crate::programs::Programs;
+use crate::texts::begun;
 use crate::totals::{Totals, kind_words};
 use crate::waiting::{put_deadlocks, put_debts, put_waits};
 use acta_ends::{Condition, kept_ends};
@@ -204,9 +208,9 @@ pub(crate) fn put_ends<A: Handle>(
     prose
 }
 
-/// The number of ends, in words.
+/// The number of ends, in words: `no end`, `1 end`, `2 ends` and so on.
 #[derive(Clone, Copy)]
-pub(crate) struct EndCount(pub(crate) usize);
+pub struct EndCount(pub usize);
 
 impl fmt::Display for EndCount {
     ghost use Rattle.std.specs.Prelude.{Some};
@@ -221,11 +225,6 @@ impl fmt::Display for EndCount {
             count => write!(f, "{count} ends"),
         }
     }
-}
-
-/// Adds the number of ends.
-pub fn put_count<A: Handle>(prose: Prose<A>, count: usize) -> Prose<A> {
-    prose.put(EndCount(count))
 }
 
 /// Adds the number of ends of each kind at these places, and the number of points searched.
@@ -244,20 +243,22 @@ pub(crate) fn put_kinds<A: Handle>(
     Totals::of(explored, places).put(prose)
 }
 
-// Adds the number of ends: of each kind, or of all those for which the condition holds.
-fn put_head<A: Handle>(
-    prose: Prose<A>,
+// The words after the number of ends for which the condition holds: how many are of each kind, or the condition and how many
+// ends there are; and each of these ends.
+fn kept_text<A: Handle>(
     programs: &Programs<'_, A>,
     condition: &Condition<A>,
     explored: &Explored<A>,
     places: &[usize],
-) -> Prose<A> {
-    let prose = put_count(prose, places.len());
-    if condition.terms.is_empty() {
-        return put_kinds(prose, explored, places);
-    }
-    let prose = programs.put_condition(prose.put(": "), condition);
-    put_count(prose.put(" (of "), explored.len()).put(", every order tried)")
+) -> Result<String<A>, AllocError> {
+    let prose = Prose::new(programs.alloc);
+    let prose = if condition.terms.is_empty() {
+        put_kinds(prose, explored, places)
+    } else {
+        let prose = programs.put_condition(prose.put(": "), condition);
+        put!(prose; " (of ", EndCount(explored.len()), ", every order tried)")
+    };
+    put_ends(prose.put("\n"), programs, explored, places, 0).done()
 }
 
 /// The ends for which the condition holds, in words.
@@ -266,38 +267,32 @@ pub(crate) fn explain_ends<A: Handle>(
     condition: &Condition<A>,
     explored: &Explored<A>,
 ) -> Result<Report<A>, AllocError>
-    ensures { IfOk result (λ report. report.is_refused ≡ false) }
+    ensures { IfOk result (λ report. IsInWords (length (kept_places condition.now explored.now)) (output_of report)) }
 {
     let alloc = programs.alloc;
     let places = kept_ends(alloc, explored, condition)?;
-    let prose = put_head(
-        Prose::new(alloc),
-        programs,
-        condition,
-        explored,
-        places.as_slice(),
-    );
-    let prose = put_ends(prose.put("\n"), programs, explored, places.as_slice(), 0);
+    let rest = kept_text(programs, condition, explored, places.as_slice())?;
+    let head = format!(in alloc; "{}", EndCount(places.len()))?.into_bytes();
     Ok(Report {
-        text: prose.done()?.into_bytes(),
+        text: begun(head, rest.as_str())?,
         is_refused: false,
     })
 }
 
-/// The words that the search was given up after this many points and ends.
+/// The words that the search was given up after this many points and ends, of which more than `most` were allowed.
 pub fn explain_incomplete<A: Handle>(
     alloc: A,
     most: u32,
     points: u64,
     ends: usize,
 ) -> Result<Report<A>, AllocError>
-    ensures { IfOk result (λ report. report.is_refused ≡ true) }
+    ensures { IfOk result (λ report. output_of report ≡ record { is_refused = true; text = incomplete_words most points ends }) }
 {
-    let prose =
-        put!(Prose::new(alloc); "incomplete: more than ", most, " points (--most): ", points,
-        " points and ", ends, " ends were found. There may be other ends.\n");
+    let text = format!(in alloc;
+        "incomplete: more than {most} points (--most): {points} points and {ends} ends were found. There may be other ends.\n"
+    )?;
     Ok(Report {
-        text: prose.done()?.into_bytes(),
+        text: text.into_bytes(),
         is_refused: true,
     })
 }

@@ -7,6 +7,7 @@ ghost use Rattle.acta_programs.specs.From.{IsAnswerAfter, IsAnswerFrom, ends_lin
 
 use crate::ends::{EndCount, put_ends, put_kinds};
 use crate::programs::Programs;
+use crate::texts::begun;
 use acta_explore::{ExploreError, Explored, Plan, Point, Watch, explore_from, history_lines};
 use acta_io::non_blank_lines;
 use acta_machine::{Handle, Machine};
@@ -99,9 +100,8 @@ fn explain_all<A: Handle>(
     ensures { IfOk result (λ text. StartsWith text.items (ends_line (length explored.now.ends))) }
 {
     let rest = ends_text(alloc, machine, lines, typed, explored)?;
-    let mut text = format!(in alloc; "{}", EndCount(explored.len()))?.into_bytes();
-    text.extend_from_slice(rest.as_bytes())?;
-    Ok(text)
+    let head = format!(in alloc; "{}", EndCount(explored.len()))?.into_bytes();
+    begun(head, rest.as_str())
 }
 
 // The line with how many points and ends were found before the search was given up.
@@ -124,9 +124,7 @@ fn explain_given_up<A: Handle>(
     let rest = format!(in alloc;
         " were found, and at most {most} points are searched. There may be other ends.\n"
     )?;
-    let mut text = given_up_line(alloc, points, ends)?;
-    text.extend_from_slice(rest.as_bytes())?;
-    Ok(text)
+    begun(given_up_line(alloc, points, ends)?, rest.as_str())
 }
 
 // How programs that continue from the root can end, in words. The root is the point after the machine's events, and the

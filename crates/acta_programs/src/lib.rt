@@ -13,12 +13,14 @@ mod ends;
 mod from;
 mod programs;
 mod report;
+mod texts;
 mod totals;
 mod waiting;
 
 pub use args::{Asked, ExploreLine, Form, MOST_POINTS, most_option};
-pub use ends::{explain_incomplete, put_count, put_end};
+pub use ends::{EndCount, explain_incomplete, put_end};
 pub use from::explain_from;
 pub use programs::Programs;
 pub use report::{explore_tool, explored};
+pub use texts::begun;
 pub use waiting::put_debts;

@@ -1,11 +1,11 @@
 //! The report for the bytes of a model and of programs.
 
-ghost use Rattle.std.specs.Prelude.{◌≡◌, ◌≤◌, ◌<◌, ◌+◌, false, true, map, is_some, IfErr, IfOk, IfSome};
+ghost use Rattle.std.specs.Prelude.{◌≡◌, ◌≤◌, ◌+◌, map, is_some, IfErr, IfOk, IfSome};
 ghost use Rattle.acta_explore.specs.Outcomes.{outcome};
 ghost use Rattle.acta_io.specs.Outcome.{AnswersBy, FailsBy, IsUnreadTooLong, KeepsUnread, WritesBy, reason_of};
 ghost use Rattle.acta_io.specs.Input.{line_numbers};
 ghost use Rattle.acta_io.specs.inside.Reports.{output_of};
-ghost use Rattle.acta_programs.specs.Answers.{IsAnswer, IsAnswerOn, IsOfEnds, IsOfPrograms, IsSearched, MayMean, TellsIncomplete};
+ghost use Rattle.acta_programs.specs.Answers.{IsAnswer, IsAnswerOn, IsInWords, IsOfEnds, IsOfPrograms, IsSearched, MayMean, TellsIncomplete, kept_count};
 ghost use Rattle.acta_programs.specs.inside.Conditions.{MayFail};
 
 use crate::answers::{write_events, write_incomplete, write_lines};
@@ -34,7 +34,8 @@ fn explain_explored<A: Handle>(
     condition: &Condition<A>,
     explored: &Explored<A>,
 ) -> Result<Report<A>, AllocError>
-    ensures { IfOk result (λ report. report.is_refused ≡ false) }
+    requires { explored.now.outcomes ≡ map (outcome lines.now) explored.now.ends }
+    ensures { IfOk result (λ report. IsInWords (kept_count lines.now condition.now explored.now.ends) (output_of report)) }
 {
     let plan = Plan::of(alloc, lines)?;
     let programs = Programs {
@@ -79,7 +80,7 @@ fn write_given_up<A: Handle>(
     points: u64,
     ends: usize,
 ) -> Result<Report<A>, AllocError>
-    ensures { IfOk result (λ report. TellsIncomplete form points ends (output_of report)) }
+    ensures { IfOk result (λ report. TellsIncomplete form most points ends (output_of report)) }
 {
     match form {
         Form::Words => explain_incomplete(alloc, most, points, ends),
