@@ -3,7 +3,6 @@
 
 pub mod limits;
 pub mod lists;
-pub mod mixing;
 
 use crate::calls::owed_by;
 use crate::expecting::{made, same};

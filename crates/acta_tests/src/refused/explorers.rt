@@ -2,17 +2,57 @@
 
 use crate::expecting::made;
 use crate::exploring::programs_of;
-use crate::exploring::rendered::rendered_of;
 use crate::models::{SHARING, model_of};
 use crate::refused::{Setting, at_least, refuse};
-use acta_explore::{Explored, explore};
+use crate::shown::put;
+use acta_explore::{Explored, Outcome, Value, explore};
 use acta_machine::Handle;
 use acta_models::Standard;
 use acta_script::ProgramLine;
 use acta_table::Model;
 use refusing::{Case, Refusing};
-use std::alloc::Allocator;
+use std::alloc::{Allocator, Global};
 use std::process::Abort;
+
+// Adds the value of an object.
+fn put_held<A: Allocator>(rt: &impl Abort, text: &mut String, value: Option<&Value<A>>) {
+    match value {
+        Some(Value::Register(value)) => put(rt, text, value),
+        Some(Value::Counter(value)) => put(rt, text, value),
+        Some(Value::Elements(elements)) => {
+            for element in elements {
+                put(rt, text, element);
+            }
+        }
+        None => {}
+    }
+}
+
+// The outcome that a search answers.
+fn rendered_of<A: Handle>(rt: &impl Abort, other: Global, outcome: &Outcome<A>) -> String {
+    let mut text = String::new(other);
+    for done in outcome.lines.as_slice() {
+        put(rt, &mut text, done);
+    }
+    for wait in outcome.waits.as_slice() {
+        put(rt, &mut text, &(wait.seat, wait.line));
+        for rule in wait.rules.as_slice() {
+            put(rt, &mut text, rule);
+        }
+    }
+    for found in outcome.statuses.as_slice() {
+        put(rt, &mut text, &(found.txn.0, found.status));
+    }
+    for object in 0..outcome.values.len() {
+        put(rt, &mut text, &object);
+        put_held(rt, &mut text, outcome.values[object].as_ref());
+    }
+    for debt in outcome.debts.as_slice() {
+        let debt = (debt.kind.code(), debt.txn, debt.on, debt.missing());
+        put(rt, &mut text, &debt);
+    }
+    text
+}
 
 // A search of programs, which starts from nothing.
 #[derive(Drop)]
