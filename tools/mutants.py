@@ -12,11 +12,13 @@ of a contract: the mutant is reported to have lost the answer, and is tried once
 """
 
 import glob
+import math
 import os
 import re
 import shutil
 import subprocess
 import threading
+import time
 from dataclasses import dataclass, field, replace
 
 from functions import functions_in, homes_of, modules_of, read, without_bodies
@@ -203,9 +205,9 @@ def without_answers(text, goals):
     return text
 
 
-def summary(every, missed):
-    """Returns a line on how many mutants were rejected, and how many were not."""
-    return f"{every - missed} mutants rejected, {missed} not"
+def summary(every, missed, untried=0):
+    """Returns a line on how many mutants were rejected, how many were not, and how many were not tried."""
+    return f"{every - missed} mutants rejected, {missed} not" + f", {untried} not tried" * bool(untried)
 
 
 def crates_listed():
@@ -217,10 +219,10 @@ def crates_listed():
 class Workshop:
     """A folder with changed copies of crates, and the libraries that they use."""
 
-    def __init__(self, path, processors, is_beside, is_wrong):
+    def __init__(self, path, processors, is_beside, is_wrong, until=math.inf):
         """Beside rt ci half as many checks run at a time as there are processors, otherwise as many. With `is_wrong`
-        they are of mutants, otherwise of the originals."""
-        self.path, self.is_wrong, self.stands_on = path, is_wrong, crates_listed()
+        they are of mutants, otherwise of the originals. No check goes on after `until`, by the monotonic clock."""
+        self.path, self.is_wrong, self.until, self.stands_on = path, is_wrong, until, crates_listed()
         checks = max(processors // 2, 1) if is_beside else processors
         self.slots, self.later = threading.Semaphore(checks), processors - checks
         self.is_settled = {crate: threading.Event() for crate in self.stands_on}
@@ -324,17 +326,24 @@ class Workshop:
                 name, path = path.split("::")[-1], path.replace("::", ".")
                 write(f"{proof}/Proof.antt", HOLE.format(crate=crate, path=path, name=name))
 
+    def is_over(self):
+        """Returns whether no more checks may run."""
+        return time.monotonic() >= self.until
+
     def check(self, crate, tried, texts, twins):
-        """Checks the tried functions in a copy of the crate with these texts and twins, and returns the output."""
+        """Checks the tried functions in a copy of the crate with these texts and twins, and returns the output; or None
+        where no time was left for it."""
         folder = f"{self.path}/{crate}"
         self.lay_out(crate, tried, texts, twins)
         only = [word for body in tried for word in ("--only", f"{crate}::{body.function}")]
         said = self.run_check(folder, crate, only)
-        if not re.search(VERDICT, said):
+        if not re.search(VERDICT, said) and not self.is_over():
             # (most likely it was killed for memory)
             self.is_alone.wait()
             said = self.run_check(folder, crate, only)
         if not re.search(VERDICT, said):
+            if self.is_over():
+                return None
             print(f"{crate}: its check with mutants came to no verdict:\n{said[-3000:]}", flush=True)
         return said
 
@@ -343,21 +352,32 @@ class Workshop:
         with the crates on which others wait."""
         with self.slots:
             self.wait_for_memory()
-            return self.run(folder, *GIVES_WAY, f"{self.kit}/bin/rattle", *self.words(crate), *only)
+            if self.is_over():
+                return ""
+            words = [*GIVES_WAY, f"{self.kit}/bin/rattle", *self.words(crate), *only]
+            if self.until < math.inf:
+                words = ["timeout", f"{self.until - time.monotonic():.3f}", *words]
+            return self.run(folder, *words)
 
     def try_crate(self, crate):
-        """Tries the mutants of a crate, once the libraries below it are there, and returns how many there are, and how
-        many were not rejected; or tries the originals, and returns how many there are, and how many were rejected."""
+        """Tries the mutants of a crate, once the libraries below it are there, and returns how many were tried, how many
+        of these were not rejected, and how many were not tried; or tries the originals, and returns how many there are,
+        how many were rejected, and 0."""
         for library in self.below(crate):
             self.is_settled[library].wait()
         mutants = mutants_of(crate)
         return self.try_mutants(crate, mutants) if self.is_wrong else self.try_originals(crate, mutants)
 
     def try_mutants(self, crate, mutants):
-        left = mutants
+        left, untried = mutants, []
         while left:
             tried, texts, twins = together(f"{ROOT}/crates/{crate}", left)
             said = self.check(crate, tried, texts, twins) if tried else ""
+            if said is None:
+                # (those that do not fit their sources are found all the same)
+                untried = [body for body in left if body.spans(f"{ROOT}/crates/{crate}")]
+                left = [body for body in left if body not in untried]
+                break
             goals, gone = open_goals(crate, said, tried, True), lost_goals(crate, said)
             rejected = [body for body in tried if f"{crate}::{body.function}" in goals]
             for body in rejected:
@@ -373,8 +393,11 @@ class Workshop:
             is_tried = body.title in [it.title for it in tried]
             why = f"no goal of {body.function} is open" if is_tried else "an old text is not in its file once"
             print(f"{crate}: {body.title}: NOT REJECTED: {why}", flush=True)
-        print(f"{crate}: {summary(len(mutants), len(left))}", flush=True)
-        return len(mutants), len(left)
+        for body in untried:
+            print(f"{crate}: {body.title}: not tried: no time was left", flush=True)
+        count = len(mutants) - len(untried)
+        print(f"{crate}: {summary(count, len(left), len(untried))}", flush=True)
+        return count, len(left), len(untried)
 
     def try_originals(self, crate, mutants):
         tried, texts, twins = together(f"{ROOT}/crates/{crate}", [replace(body, changes=[]) for body in mutants])
@@ -385,4 +408,4 @@ class Workshop:
         for function, goal in goals.items():
             print(f"{crate}: {function}: REJECTED as it is, {goal}", flush=True)
         print(f"{crate}: {len(tried)} originals, {len(goals)} rejected", flush=True)
-        return len(tried), len(goals)
+        return len(tried), len(goals), 0
